@@ -51,9 +51,10 @@ alike : (q : Part → Bool) (s : List Part) (v u : Values) → taken q s v ≡ t
 alike q [] v u e = tt
 alike q (p ∷ s) v u e =
     let hv = cond-lt (q p) (value p v) (width p) (value-lt p v) in
-    let hu = cond-lt (q p) (value p u) (width p) (value-lt p u) in
-    ( (λ t. subst (λ b. cond b (value p v) 0 ≡ cond b (value p u) 0) t (sym (low (taken q s v) (width p) hv) ∙ ap (λ x. x % 2 ^ width p) e ∙ low (taken q s u) (width p) hu))
-    , alike q s v u (sym (high (taken q s v) (width p) hv) ∙ ap (λ x. x / 2 ^ width p) e ∙ high (taken q s u) (width p) hu) )
+    let hu = cond-lt (q p) (value p u) (width p) (value-lt p u) in (
+      (λ t. subst (λ b. cond b (value p v) 0 ≡ cond b (value p u) 0) t (sym (low (taken q s v) (width p) hv) ∙ ap (λ x. x % 2 ^ width p) e ∙ low (taken q s u) (width p) hu)),
+      alike q s v u (sym (high (taken q s v) (width p) hv) ∙ ap (λ x. x / 2 ^ width p) e ∙ high (taken q s u) (width p) hu),
+    )
 
 pub by-cond : (P : ℕ → Type 0) (b : Bool) (x y : ℕ) → (b ≡ true → P x) → P y → P (cond b x y)
 by-cond P true x y p q = p refl
@@ -100,8 +101,8 @@ module _ (q : Part → Bool) (v u : Values) (f : Field) (all : (l w : ℕ) → q
   piece (Slice g l w ∷ s) a h =
       by-cond (λ n. valueAt f v / 2 ^ a % 2 ^ n ≡ valueAt f u / 2 ^ a % 2 ^ n) (same g f && eqb l a) w (from s f a)
       (λ t. let e = both g f l a t in
-        let k : q (Slice g l w) ≡ true = subst (λ x. q (Slice x l w) ≡ true) (sym (e .0)) (all l w) in
-        subst₂ (λ x y. valueAt x v / 2 ^ y % 2 ^ w ≡ valueAt x u / 2 ^ y % 2 ^ w) (e .0) (e .1) (h .0 k))
+      let k : q (Slice g l w) ≡ true = subst (λ x. q (Slice x l w) ≡ true) (sym (e .0)) (all l w) in
+      subst₂ (λ x y. valueAt x v / 2 ^ y % 2 ^ w ≡ valueAt x u / 2 ^ y % 2 ^ w) (e .0) (e .1) (h .0 k))
       (piece s a (h .1))
 
   further : (n : ℕ) (s : List Part) (a : ℕ) → Alike q s v u → valueAt f v % 2 ^ a ≡ valueAt f u % 2 ^ a → valueAt f v % 2 ^ reach n s f a ≡ valueAt f u % 2 ^ reach n s f a
@@ -199,6 +200,7 @@ clears (Slice f l w ∷ s) a g k v x t c =
     swap true false t = refl
     swap false true t = refl
     swap false false t = t
+
     turn : (b : Bool) → same f g ≡ b → cond b (leb (l + w) k || leb (k + v) l) true ≡ true → cond (same g f) (x % 2 ^ v * 2 ^ k) 0 / 2 ^ l % 2 ^ w ≡ 0
     turn true e t = by-cond (λ n. n / 2 ^ l % 2 ^ w ≡ 0) (same g f) (x % 2 ^ v * 2 ^ k) 0 (λ i. elsewhere (x % 2 ^ v) v k l w (mod-lt x (pow-pos v)) (swap (leb (l + w) k) (leb (k + v) l) t)) (nothing l w)
     turn false e t = let i : same g f ≡ false = grind (arith, tells) in ap (λ b. cond b (x % 2 ^ v * 2 ^ k) 0 / 2 ^ l % 2 ^ w) i ∙ nothing l w
@@ -213,9 +215,10 @@ stands t [] a x h c = tt
 stands t (Fixed w n ∷ s) a x h c = stands t s (λ f. bitOr (a f) 0) (x / 2 ^ w) h (clear-fixed s a w n x c)
 stands t (Slice f l w ∷ s) a x h c =
     let z = andb (leb (w + l) (span t f)) (apart s f l w && tidy t s) h in
-    let o = andb (apart s f l w) (tidy t s) (z .1) in
-    ( kept s (bitOr (a f) (bitsIn f (Slice f l w) x)) f l w (x / 2 ^ w) (o .0) ∙ self f l w x (a f) (c .0)
-    , stands t s (λ g. bitOr (a g) (bitsIn g (Slice f l w) x)) (x / 2 ^ w) (o .1) (clears s a f l w x (o .0) (c .1)) )
+    let o = andb (apart s f l w) (tidy t s) (z .1) in (
+      kept s (bitOr (a f) (bitsIn f (Slice f l w) x)) f l w (x / 2 ^ w) (o .0) ∙ self f l w x (a f) (c .0),
+      stands t s (λ g. bitOr (a g) (bitsIn g (Slice f l w) x)) (x / 2 ^ w) (o .1) (clears s a f l w x (o .0) (c .1)),
+    )
 
 clear-none : (s : List Part) → Clear s (λ f. 0)
 clear-none [] = tt
@@ -235,9 +238,9 @@ picks-lt t (Slice g k w ∷ s) a f x h l =
     let o = andb (apart s g k w) (tidy t s) (z .1) in
     picks-lt t s (bitOr a (bitsIn f (Slice g k w) x)) f (x / 2 ^ w) (o .1)
     (or-lt (span t f) a (bitsIn f (Slice g k w) x) l
-      (by-cond (λ n. n < 2 ^ span t f) (same g f) (x % 2 ^ w * 2 ^ k) 0
-        (λ e. lt-of-lt-of-le (shl-lt w k (mod-lt x (pow-pos w))) (pow-mono (subst (λ n. w + k ≤ span t n) (same-is g f e) (below (z .0)))))
-        (pow-pos (span t f))))
+    (by-cond (λ n. n < 2 ^ span t f) (same g f) (x % 2 ^ w * 2 ^ k) 0
+    (λ e. lt-of-lt-of-le (shl-lt w k (mod-lt x (pow-pos w))) (pow-mono (subst (λ n. w + k ≤ span t n) (same-is g f e) (below (z .0)))))
+    (pow-pos (span t f))))
   where
     below : leb (w + k) (span t g) ≡ true → w + k ≤ span t g
     below e = grind (arith, tells)
@@ -269,21 +272,29 @@ joins (p ∷ s) u y x lt e t a =
   where
     k : ℕ
     k = width p
+
     hr : x % 2 ^ width p < 2 ^ width p
     hr = mod-lt x (pow-pos (width p))
+
     hm : cond (fixed p) (2 ^ width p - 1) 0 < 2 ^ width p
     hm = cond-lt (fixed p) (2 ^ width p - 1) (width p) (ones-lt (width p))
+
     hv : cond (fixed p) (value p u) 0 < 2 ^ width p
     hv = cond-lt (fixed p) (value p u) (width p) (value-lt p u)
+
     both′ : bitAnd (x / 2 ^ width p) (mask s) * 2 ^ width p + bitAnd (x % 2 ^ width p) (cond (fixed p) (2 ^ width p - 1) 0) ≡ bits s u * 2 ^ width p + cond (fixed p) (value p u) 0
     both′ = sym (and-block (width p) (x / 2 ^ width p) (mask s) (x % 2 ^ width p) (cond (fixed p) (2 ^ width p - 1) 0) hr hm)
         ∙ ap (λ (n : ℕ). bitAnd n (mask s * 2 ^ width p + cond (fixed p) (2 ^ width p - 1) 0)) (div-add-mod' x (2 ^ width p)) ∙ e
+
     hl : bitAnd (x % 2 ^ width p) (cond (fixed p) (2 ^ width p - 1) 0) < 2 ^ width p
     hl = and-lt (width p) (x % 2 ^ width p) (cond (fixed p) (2 ^ width p - 1) 0) hr hm
+
     lo : bitAnd (x % 2 ^ width p) (cond (fixed p) (2 ^ width p - 1) 0) ≡ cond (fixed p) (value p u) 0
     lo = sym (digits-mod (bitAnd (x / 2 ^ width p) (mask s)) hl) ∙ ap (λ (n : ℕ). n % 2 ^ width p) both′ ∙ digits-mod (bits s u) hv
+
     hi : bitAnd (x / 2 ^ width p) (mask s) ≡ bits s u
     hi = sym (digits-div (bitAnd (x / 2 ^ width p) (mask s)) hl) ∙ ap (λ (n : ℕ). n / 2 ^ width p) both′ ∙ digits-div (bits s u) hv
+
     rest : (p : Part) → Stands (p ∷ s) y x → Stands s y (x / 2 ^ width p)
     rest (Fixed w c) t = t
     rest (Slice f l w) t = t .1
@@ -314,6 +325,7 @@ again (p ∷ s) v u y x a e t =
     rest : (p : Part) → Stands (p ∷ s) y x → Stands s y (x / 2 ^ width p)
     rest (Fixed w c) t = t
     rest (Slice f l w) t = t .1
+
     at : (p : Part) → value p v ≡ x % 2 ^ width p → Stands (p ∷ s) y x → value p u ≡ x % 2 ^ width p
     at (Fixed w c) e t = e
     at (Slice f l w) e t = ap (λ n. n / 2 ^ l % 2 ^ w) (a f) ∙ t .0

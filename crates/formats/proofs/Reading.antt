@@ -10,12 +10,15 @@ use Rattle.bits.specs.declared.part.Values.{Values}
 use Rattle.bits.specs.Layout.{word, picks, Fit}
 use Rattle.bits.proofs.Layouts.{picks-only}
 use Rattle.formats.specs.declared.kind.Kind.{Kind}
-use Rattle.formats.specs.declared.operands_of.WideCode.{WideCode}
+use Rattle.formats.specs.declared.faults.WideCode.{WideCode}
 use Rattle.formats.specs.Layouts.{layout}
 use Rattle.formats.proofs.Sound.{layout-sound}
 
 pub none-some : {X : Type 0} (P : Type 0) (x : X) → _≡_ {A = Option X} None (Some x) → P
 none-some P x e = absurd (let z : _≡_ {A = ℕ} 0 1 = cc in omega arith)
+
+pub some-one : {X : Type 0} (x y : X) → _≡_ {A = Option X} (Some x) (Some y) → x ≡ y
+some-one x y e = cc
 
 clash : (P : Type 0) (b : Bool) → b ≡ true → b ≡ false → P
 clash P b t f = absurd (let z : _≡_ {A = ℕ} 0 1 = cc in omega arith)

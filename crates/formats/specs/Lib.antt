@@ -1,2 +1,3 @@
 pub mod Layouts
-pub mod Operands
+pub mod Lawful
+pub mod Reaching

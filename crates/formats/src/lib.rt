@@ -1,10 +1,7 @@
-//! The formats of instruction words, each behind one interface.
+//! The interface of a format, and the layout of each.
+pub mod by;
+pub mod faults;
+pub mod format;
 pub mod kind;
 pub mod layouts;
-pub mod operands_of;
-pub mod format;
-pub mod r;
-
-
-
-
+pub mod reaching;

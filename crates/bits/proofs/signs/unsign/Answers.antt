@@ -15,7 +15,7 @@ returns-then-value-lt0 c =
     let z = toZ-ofZ w32 (c .args .value) (c .fits .value) in
     ap (λ (x : ℕ). x - c .unsigned-abs .result) (one-shl (c .args .width) 32 (omega arith))
     ∙ twos-below (c .args .width) (c .unsigned-abs .result) (c .args .value) (subst (λ y. ltZ y (pos 0) ≡ true) z (c .if-value-lt0 .taken)) (c .pre .near)
-      (c .unsigned-abs .ensures .value ∙ ap natAbs z)
+    (c .unsigned-abs .ensures .value ∙ ap natAbs z)
 
 pub returns-else-value-lt0 : need.returns-else-value-lt0
 returns-else-value-lt0 c =

@@ -50,9 +50,10 @@ loop-i-again c =
     let i = c .loop-i .i in
     let p = getD s (i - 1) (Fixed 0 0) in
     let h : i - 1 < length s = omega (arith, c .loop-i .inv .0) in
-    let j : suc (i - 1) ≡ i = omega arith in
-    ( omega (arith, c .loop-i .inv .0)
-    , c .put-bits .ensures
-      ∙ ap₂ (λ x y. c .loop-i .bits * 2 ^ x + y) (c .width-of-width .ensures) (c .value-of .ensures)
-      ∙ ap (λ x. x * 2 ^ width p + value p (c .args .v .now)) (c .loop-i .inv .1 ∙ ap (λ k. word (drop k s) (c .args .v .now)) (sym j))
-      ∙ sym (word-drop s (c .args .v .now) (i - 1) (Fixed 0 0) h) )
+    let j : suc (i - 1) ≡ i = omega arith in (
+      omega (arith, c .loop-i .inv .0),
+      c .put-bits .ensures
+          ∙ ap₂ (λ x y. c .loop-i .bits * 2 ^ x + y) (c .width-of-width .ensures) (c .value-of .ensures)
+          ∙ ap (λ x. x * 2 ^ width p + value p (c .args .v .now)) (c .loop-i .inv .1 ∙ ap (λ k. word (drop k s) (c .args .v .now)) (sym j))
+          ∙ sym (word-drop s (c .args .v .now) (i - 1) (Fixed 0 0) h),
+    )

@@ -2,7 +2,7 @@ use mathlib.Core.Path.{_≡_, refl, sym, ap, ap₂, subst, _∙_}
 use Rattle.bits.specs.Layout.{word, picks, Fit}
 use Rattle.bits.proofs.Layouts.{picks-fit, picks-word}
 use Rattle.formats.specs.Layouts.{layout}
-use Rattle.formats.specs.Operands.{Fits}
+use Rattle.formats.specs.Lawful.{Fits}
 use Rattle.formats.proofs.Sound.{layout-sound}
 use Rattle.formats.proofs.Reading.{none-some, forth, back}
 use Rattle.formats.proofs.format.Format.read.Needs as need

@@ -1,0 +1,5 @@
+pub mod Checks
+pub mod Constants
+pub mod Forms
+pub mod Lawfuls
+pub mod Sizes

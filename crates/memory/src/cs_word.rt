@@ -1,0 +1,76 @@
+// bit 0 up: opcode 0-1 | src 2-4 | imm[6] 5 | imm[2] 6 | base 7-9 | imm[5:3] 10-12 | funct3 13-15
+ghost use mathlib.Core.Bool.{true};
+ghost use Rattle.formats.specs.declared.kind.Kind.the-variants.{CsWord as CsWord-kind};
+ghost use Rattle.memory.specs.Operands.{CsWord-values, CsWord-fault};
+use crate::operands_of::CsWordOperands;
+use bits::fields::cut;
+use bits::fields::put;
+use bits::part::Values;
+use formats::faults::WideCode;
+use formats::format::Format;
+use formats::kind::Kind;
+use operands::imms::UImm5;
+use operands::regs::ShortNum;
+
+pub struct CsWord;
+
+pub impl Format for CsWord as CsWordFormat {
+    type Operands = CsWordOperands;
+
+    ghost kind = { CsWord-kind };
+
+    ghost values = { CsWord-values };
+
+    ghost fault = { CsWord-fault };
+
+    ghost allows = { λ v. true };
+
+    fn kind_of() -> Kind {
+        Kind::CsWord
+    }
+
+    fn halfwords() -> usize {
+        1
+    }
+
+    fn encode(o: &CsWordOperands) -> Result<u32, WideCode> {
+        if o.opcode >= 4 {
+            return Err(WideCode::Opcode(o.opcode));
+        }
+        if o.funct3 >= 8 {
+            return Err(WideCode::Funct3(o.funct3));
+        }
+        let imm = o.imm.bits();
+        let mut bits = o.opcode;
+        bits = put(bits, o.src.value(), 2, 3);
+        bits = put(bits, cut(imm, 4, 1), 5, 1);
+        bits = put(bits, cut(imm, 0, 1), 6, 1);
+        bits = put(bits, o.base.value(), 7, 3);
+        bits = put(bits, cut(imm, 1, 3), 10, 3);
+        bits = put(bits, o.funct3, 13, 3);
+        Ok(bits)
+    }
+
+    fn split(o: &CsWordOperands) -> Values {
+        Values {
+            d: 0,
+            a: o.base.value(),
+            b: o.src.value(),
+            n: o.imm.bits(),
+            m: 0,
+            opcode: o.opcode,
+            funct3: o.funct3,
+            funct: 0,
+        }
+    }
+
+    fn make(v: &Values) -> Option<CsWordOperands> {
+        Some(CsWordOperands {
+            opcode: v.opcode,
+            src: ShortNum::of_bits(v.b),
+            base: ShortNum::of_bits(v.a),
+            imm: UImm5::of_bits(v.n),
+            funct3: v.funct3,
+        })
+    }
+}

@@ -1,0 +1,4 @@
+pub mod Backs
+pub mod Apart
+pub mod Tell
+pub mod Steps

@@ -1,0 +1,3 @@
+pub mod Taking
+pub mod Rows
+pub mod Real

@@ -1,0 +1,4 @@
+pub mod Listing
+pub mod Assembled
+pub mod Numbers
+pub mod Sheet

@@ -1,0 +1,4 @@
+//! Sheets: lines of instructions in, their words out.
+mod assemble;
+pub mod faults;
+pub mod sheet;

@@ -1,0 +1,5 @@
+pub mod Answers
+pub mod Fronts
+pub mod Halves
+pub mod Part
+pub mod Puts

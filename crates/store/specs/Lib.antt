@@ -1,0 +1,4 @@
+pub mod Answers
+pub mod Halves
+pub mod Part
+pub mod Puts
