@@ -1,4 +1,6 @@
 //! Words of any format in a buffer of halfwords.
+#![tactic(auto)]
+
 ghost use Rattle.std.specs.Prelude.{◌≡◌, ◌+◌, ◌*◌, ◌^◌, ◌<◌, ◌≤◌, true, ◌⊎◌, length, Some, None};
 ghost use Rattle.bits.specs.Layout.{word};
 ghost use Rattle.formats.specs.Layouts.{layout, size};

@@ -1,4 +1,6 @@
 //! The calls that an open program and a try take, over counts, book and store.
+#![tactic(auto)]
+
 pub mod append;
 pub mod bind;
 pub mod constant;

@@ -1,4 +1,6 @@
 //! Changing: the numbers of a sealed program's slots.
+#![tactic(auto)]
+
 pub mod change;
 pub mod edits;
 pub mod faults;

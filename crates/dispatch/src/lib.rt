@@ -1,4 +1,6 @@
 //! From a kind to its format.
+#![tactic(auto)]
+
 ghost use Rattle.std.specs.Prelude.{◌≡◌, MatchOption, ◌≢◌};
 ghost use Rattle.bits.specs.declared.part.Values.{Values};
 ghost use Rattle.bits.specs.Layout.{word, Fit};

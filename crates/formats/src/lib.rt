@@ -1,4 +1,6 @@
 //! The interface of a format, and the layout of each.
+#![tactic(auto)]
+
 pub mod by;
 pub mod faults;
 pub mod format;

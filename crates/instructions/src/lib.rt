@@ -1,4 +1,6 @@
 //! Instructions: an operation with lawful fields, and its word.
+#![tactic(auto)]
+
 pub mod build;
 pub mod faults;
 pub mod fields;

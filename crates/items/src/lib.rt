@@ -1,4 +1,6 @@
 //! The items of a program's listing, and what holds of them.
+#![tactic(auto)]
+
 pub mod jumps;
 pub mod laws;
 pub mod pairs;

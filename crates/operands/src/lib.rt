@@ -1,4 +1,6 @@
 //! Registers, immediates and distances, each in its range by construction.
+#![tactic(auto)]
+
 pub mod distances;
 pub mod generate;
 pub mod imms;

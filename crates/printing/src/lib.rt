@@ -1,4 +1,6 @@
 //! Text for a reader: the words of a program, and a fault.
+#![tactic(auto)]
+
 pub mod faults;
 mod marks;
 pub mod words;

@@ -1,4 +1,6 @@
 //! Reading: a word as the instruction that has it.
+#![tactic(auto)]
+
 pub mod faults;
 pub mod fields;
 pub mod laws;

@@ -1,5 +1,7 @@
 //! Replays lines of answers that the Rust's encoders gave: an encoder's name, its operands, and the word in hexadecimal, or `panic` where an
 //! assertion of the Rust fails. Prints each line at which the encoder here answers otherwise, and the counts.
+#![tactic(auto)]
+
 use crate::line::agrees;
 use crate::tally::counted;
 use std::io;

@@ -1,2 +1,4 @@
 //! Sealing: every jump is given the distance to its label.
+#![tactic(auto)]
+
 pub mod faults;

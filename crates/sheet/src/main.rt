@@ -1,4 +1,6 @@
 //! Reads a sheet from standard input and prints its answer.
+#![tactic(auto)]
+
 ghost use Rattle.std.specs.Prelude.{◌≤◌, length, IfOk};
 
 use sheets::sheet::sheet;

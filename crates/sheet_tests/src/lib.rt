@@ -1,4 +1,6 @@
 //! Examples of sheets and their answers.
+#![tactic(auto)]
+
 #[cfg(test)]
 mod tests {
     use sheets::faults::SizeFault;

@@ -1,4 +1,6 @@
 //! Compressed formats of registers and plain constants.
+#![tactic(auto)]
+
 pub mod ca;
 pub mod cb;
 pub mod ci;

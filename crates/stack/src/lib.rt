@@ -1,4 +1,6 @@
 //! Compressed formats of the stack pointer.
+#![tactic(auto)]
+
 pub mod ci_addi16sp;
 pub mod ci_ldsp;
 pub mod ci_lwsp;

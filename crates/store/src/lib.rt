@@ -1,4 +1,6 @@
 //! Stores: lists of halfwords of fixed length, at most 32768 of them.
+#![tactic(auto)]
+
 pub mod built_in;
 pub mod bytes;
 pub mod store;

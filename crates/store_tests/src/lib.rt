@@ -1,4 +1,6 @@
 //! Examples of the stores.
+#![tactic(auto)]
+
 #[cfg(test)]
 mod tests {
     use std::test::Fail;

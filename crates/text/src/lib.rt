@@ -1,3 +1,5 @@
+#![tactic(auto)]
+
 // Reading lines, fields and numbers out of bytes, and writing text into bytes.
 pub mod bytes;
 pub mod fields;

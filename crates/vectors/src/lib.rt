@@ -1,4 +1,6 @@
 //! Vector arithmetic, and vector loads and stores.
+#![tactic(auto)]
+
 pub mod operands_of;
 pub mod v;
 pub mod v_imm;
