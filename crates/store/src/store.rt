@@ -43,8 +43,8 @@ pub trait Store {
 
 /// Puts the halfwords of a list from a place up, in order. Where a place among them lies outside, nothing is put, and the first such place is named.
 pub fn write<S: Store>(store: &mut S, place: usize, list: &[u16]) -> Result<(), StoreFault>
-    ensures answer { result ≡ span_answer (length (halfwords store.old)) place (length list.now) }
-    ensures after { halfwords store.new ≡ applied (when result (puts place list.now) []) (halfwords store.old) }
+    ensures answer { result ≡ span_answer (length (S.halfwords store.old)) place (length list.now) }
+    ensures after { S.halfwords store.new ≡ applied (when result (puts place list.now) []) (S.halfwords store.old) }
 {
     fits(store.size(), place, list.len())?;
     put_all(store, place, list)
@@ -63,10 +63,10 @@ fn fits(size: usize, place: usize, count: usize) -> Result<(), StoreFault>
 
 // Puts a list that fits.
 fn put_all<S: Store>(store: &mut S, place: usize, list: &[u16]) -> Result<(), StoreFault>
-    requires room { length list.now ≤ length (halfwords store.old) - place }
-    requires bounded { length (halfwords store.old) ≤ 32768 }
+    requires room { length list.now ≤ length (S.halfwords store.old) - place }
+    requires bounded { length (S.halfwords store.old) ≤ 32768 }
     ensures answer { result ≡ Ok tt }
-    ensures after { halfwords store.new ≡ applied (puts place list.now) (halfwords store.old) }
+    ensures after { S.halfwords store.new ≡ applied (puts place list.now) (S.halfwords store.old) }
 {
     for (i, half) in list.iter().enumerate() {
         store.put(place + i, *half)?;

@@ -51,7 +51,7 @@ impl<S: Store> Store for Window<'_, S> {
 
 // How many halfwords the store below has of the window.
 fn size_from<S: Store>(below: &S, from: usize, most: usize) -> usize
-    ensures all { result ≡ length (part from most (halfwords below.now)) }
+    ensures all { result ≡ length (part from most (S.halfwords below.now)) }
     ensures bounded { result ≤ 32768 - from }
 {
     below.size().saturating_sub(from).min(most)
@@ -59,7 +59,7 @@ fn size_from<S: Store>(below: &S, from: usize, most: usize) -> usize
 
 // The halfword at a place of the window.
 fn get_from<S: Store>(below: &S, from: usize, most: usize, place: usize) -> Option<u16>
-    ensures { result ≡ slice_get (part from most (halfwords below.now)) place }
+    ensures { result ≡ slice_get (part from most (S.halfwords below.now)) place }
 {
     if place < size_from(below, from, most) {
         below.get(from + place)
@@ -76,9 +76,9 @@ fn put_from<S: Store>(
     place: usize,
     half: u16,
 ) -> Result<(), StoreFault>
-    ensures answer { result ≡ put_answer (part from most (halfwords below.old)) place }
-    ensures after { part from most (halfwords below.new) ≡ slice_set (part from most (halfwords below.old)) place half }
-    ensures below { halfwords below.new ≡ when result (slice_set (halfwords below.old) (from + place) half) (halfwords below.old) }
+    ensures answer { result ≡ put_answer (part from most (S.halfwords below.old)) place }
+    ensures after { part from most (S.halfwords below.new) ≡ slice_set (part from most (S.halfwords below.old)) place half }
+    ensures below { S.halfwords below.new ≡ when result (slice_set (S.halfwords below.old) (from + place) half) (S.halfwords below.old) }
 {
     if place < size_from(below, from, most) {
         below.put(from + place, half)
@@ -95,8 +95,8 @@ pub fn put_part<S: Store>(
     place: usize,
     half: u16,
 ) -> Result<(), StoreFault>
-    ensures answer { result ≡ put_answer (part from most (halfwords below.old)) place }
-    ensures below { halfwords below.new ≡ when result (slice_set (halfwords below.old) (from + place) half) (halfwords below.old) }
+    ensures answer { result ≡ put_answer (part from most (S.halfwords below.old)) place }
+    ensures below { S.halfwords below.new ≡ when result (slice_set (S.halfwords below.old) (from + place) half) (S.halfwords below.old) }
 {
     let mut window = Window::new(below, from, most);
     window.put(place, half)

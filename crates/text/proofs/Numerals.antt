@@ -4,7 +4,7 @@ use Rattle.std.specs.Int.Digits.{digits_of, AllBelowBase, number_from_digits_aft
 use Rattle.std.proofs.lemmas.Int.Digits.{digits_of_step, all_below_base_digits_of, first_digits_of, number_digits_of, length-digits_of_step, length-digits_of-le}
 use Rattle.std.proofs.lemmas.List.{append-nil, append_assoc, map-append, length-map, length_push}
 use Rattle.std.proofs.lemmas.Int.{ints}
-use Rattle.std.proofs.lemmas.Bool.{both_ways, cond-true, cond-false, eq-eqb, ne_eqb, eqb_true, lt-ltb, ltb-true, le-ltb, cases_eq, cases_lt, cases_Bool, and_parts, leb-true, le-leb, and_from, and_left}
+use Rattle.std.proofs.lemmas.Bool.{both_ways, cond-true, cond-false, eq-eqb, ne_eqb, eqb-true, lt-ltb, ltb-true, le-ltb, cases_eq, cases_lt, cases_Bool, and_parts, leb-true, le-leb, and_from, and_left}
 use Rattle.text.specs.Decimal.{digits, numeral}
 use Rattle.text.specs.Numbers.{Within, is_digit, value_after, natural_of, plain, negated, number_of, NumeralsExact}
 
@@ -179,7 +179,7 @@ number_writes t z e =
     (λ s.
     let m = negated-some (natural_of (drop 1 t)) z (sym (cond-true (eqb (get_or t 0 0) 45) (negated (natural_of (drop 1 t))) (plain (natural_of t)) s) ∙ e) in (
       subst Within (sym m.2) (within-negsuc m.0 m.3),
-      ap numeral m.2 ∙ ap (λ r. 45 ∷ r) (natural_writes (drop 1 t) (suc m.0) m.1) ∙ minus_front t (eqb_true (get_or t 0 0) 45 s),
+      ap numeral m.2 ∙ ap (λ r. 45 ∷ r) (natural_writes (drop 1 t) (suc m.0) m.1) ∙ minus_front t (eqb-true (get_or t 0 0) 45 s),
     ))
     (λ s.
     let p = plain-some (natural_of t) z (sym (cond-false (eqb (get_or t 0 0) 45) (negated (natural_of (drop 1 t))) (plain (natural_of t)) s) ∙ e) in

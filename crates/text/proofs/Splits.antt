@@ -2,7 +2,7 @@
 use Rattle.std.proofs.Common.{◌≡◌, ℕ, suc, ◌+◌, ◌<◌, ◌≤◌, Bool, true, false, cond, eqb, List, [], ◌∷◌, ◌++◌, length, sym, refl, ap, ◌∙◌, arith}
 use Rattle.std.specs.List.{AllByRecursion as All}
 use Rattle.std.proofs.lemmas.List.{append-nil}
-use Rattle.std.proofs.lemmas.Bool.{eqb_true, eqb-false, ne_eqb, cond-false}
+use Rattle.std.proofs.lemmas.Bool.{eqb-true, eqb-false, ne_eqb, cond-false}
 use Rattle.text.specs.Bytes.{Without}
 use Rattle.text.specs.Lines.{Line, ended, unended, with_byte, lines, sheet, Tidy, LinesExact}
 use Rattle.text.specs.Fields.{fields, with_front, line_of, behind_commas, Apart, FieldsExact}
@@ -29,7 +29,7 @@ sheet_front x (ended t ∷ ls) = refl
 sheet_front x (unended t ∷ ls) = refl
 
 sheet_step : (x : ℕ) (ls : List Line) (b : Bool) → eqb x 10 ≡ b → sheet (cond b (ended [] ∷ ls) (with_byte x ls)) ≡ x ∷ sheet ls
-sheet_step x ls true e = ap (λ y. y ∷ sheet ls) (sym (eqb_true x 10 e))
+sheet_step x ls true e = ap (λ y. y ∷ sheet ls) (sym (eqb-true x 10 e))
 sheet_step x ls false e = sheet_front x ls
 
 sheet-lines : (s : List ℕ) → sheet (lines s) ≡ s
@@ -80,7 +80,7 @@ line_comma [] l = absurd (omega arith)
 line_comma (f ∷ fs) l = refl
 
 line_step : (x : ℕ) (fs : List (List ℕ)) (b : Bool) → eqb x 44 ≡ b → 0 < length fs → line_of (cond b ([] ∷ fs) (with_front x fs)) ≡ x ∷ line_of fs
-line_step x fs true e l = line_comma fs l ∙ ap (λ y. y ∷ line_of fs) (sym (eqb_true x 44 e))
+line_step x fs true e l = line_comma fs l ∙ ap (λ y. y ∷ line_of fs) (sym (eqb-true x 44 e))
 line_step x fs false e l = line_front x fs
 
 line_fields : (s : List ℕ) → line_of (fields s) ≡ s

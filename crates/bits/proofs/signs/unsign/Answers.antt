@@ -8,9 +8,9 @@ use Rattle.bits.proofs.signs.unsign.Goals as goal
 pub returns-then-value-lt0 : goal.returns-then-value-lt0
 returns-then-value-lt0 c =
     let z = to_z-of_z w32 c.args.value c.ranges.value in
-    ap (λ (x : ℕ). x - c.unsigned-abs.result) (one_shl c.args.width 32 (omega arith))
-    ∙ twos_below c.args.width c.unsigned-abs.result c.args.value (subst (λ y. lt_z y (pos 0) ≡ true) z c.if-value-lt0.true) c.requires.near
-    (c.unsigned-abs.ensures.value ∙ ap nat_abs z)
+    ap (λ (x : ℕ). x - c.unsigned_abs.result) (one_shl c.args.width 32 (omega arith))
+    ∙ twos_below c.args.width c.unsigned_abs.result c.args.value (subst (λ y. lt_z y (pos 0) ≡ true) z c.if-value-lt0.true) c.requires.near
+    (c.unsigned_abs.ensures.value ∙ ap nat_abs z)
 
 pub returns-else-value-lt0 : goal.returns-else-value-lt0
 returns-else-value-lt0 c =

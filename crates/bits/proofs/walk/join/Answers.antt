@@ -31,10 +31,10 @@ pub put-bits-requires : goal.put-bits-requires
 put-bits-requires c =
     let p = get_or c.args.parts.now (c.loop-i.i - 1) (Fixed 0 0) in
     let b = before c.args.parts.now c.loop-i.i c.requires (omega arith) c.loop-i.invariant.0 in
-    let e = c.width-of-width.ensures in
-    let w : c.width-of-width.result < 32 = subst (λ n. n < 32) (sym e) (handy-width p b.0) in
+    let e = c.width_of-width.ensures in
+    let w : c.width_of-width.result < 32 = subst (λ n. n < 32) (sym e) (handy-width p b.0) in
     record {
-      below = subst₂ (λ m n. m < 2 ^ n) (sym c.value-of.ensures) (sym e) (value-lt p c.args.v.now);
+      below = subst₂ (λ m n. m < 2 ^ n) (sym c.value_of.ensures) (sym e) (value-lt p c.args.v.now);
       narrow = subst₂ (λ m n. m < 2 ^ (32 - n)) (sym c.loop-i.invariant.1) (sym e) (room (drop c.loop-i.i c.args.parts.now) c.args.v.now (width p) b.1);
       inside = w;
       within = omega arith;
@@ -49,7 +49,7 @@ loop-i-preserved c =
     let j : suc (i - 1) ≡ i = omega arith in (
       omega (arith, c.loop-i.invariant.0),
       c.put-bits.ensures
-          ∙ ap₂ (λ x y. c.loop-i.bits * 2 ^ x + y) c.width-of-width.ensures c.value-of.ensures
+          ∙ ap₂ (λ x y. c.loop-i.bits * 2 ^ x + y) c.width_of-width.ensures c.value_of.ensures
           ∙ ap (λ x. x * 2 ^ width p + value p c.args.v.now) (c.loop-i.invariant.1 ∙ ap (λ k. word (drop k s) c.args.v.now) (sym j))
           ∙ sym (word-drop s c.args.v.now (i - 1) (Fixed 0 0) h),
     )

@@ -18,7 +18,7 @@ loop-p-preserved c =
     let i = c.loop-p.p-index in
     let f = c.args.field in
     let p = get_or s i (Fixed 0 0) in
-    ap₂ (λ m n. pick (bit_or c.loop-p.found m) (drop (i + 1) s) f (c.loop-p.rest / 2 ^ n)) c.bits-in-found.ensures c.width-of-rest.ensures
+    ap₂ (λ m n. pick (bit_or c.loop-p.found m) (drop (i + 1) s) f (c.loop-p.rest / 2 ^ n)) c.bits_in-found.ensures c.width_of-rest.ensures
     ∙ ap (λ k. pick (bit_or c.loop-p.found (bits_in f p c.loop-p.rest)) (drop k s) f (c.loop-p.rest / 2 ^ width p)) (add-one i)
     ∙ sym (pick-drop s c.loop-p.found f c.loop-p.rest i (Fixed 0 0) c.loop-p-test.true)
     ∙ c.loop-p.invariant

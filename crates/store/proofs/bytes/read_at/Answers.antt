@@ -20,5 +20,5 @@ read-two-requires c = simp (length-take, length-drop) (omega (arith, length-held
 pub returns : goal.returns
 returns c =
     let p = c.args.place in
-    ap Some (c.read-two.ensures ∙ ap (λ xs. get_or xs (2 * p) 0 + 256 * get_or xs (2 * p + 1) 0) (take_rest c.args.memory.now c.args.start))
+    ap Some (c.read_two.ensures ∙ ap (λ xs. get_or xs (2 * p) 0 + 256 * get_or xs (2 * p + 1) 0) (take_rest c.args.memory.now c.args.start))
     ∙ sym (nth_held c.args.start c.args.memory.now p (omega arith))

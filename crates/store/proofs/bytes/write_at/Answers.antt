@@ -29,5 +29,5 @@ returns c =
     let p = c.args.place in
     let inside : p < length (held s m) = omega arith in
     let low : s ≤ length m = omega (arith, length-held s m) in
-    let now-is : put_mid s (length m - s) m c.write-two.new.rest ≡ with_half m (s + 2 * p) c.args.half = search (rules, overwrites, take_rest) ∙ with_half_rest s m (2 * p) c.args.half low in
+    let now-is : put_mid s (length m - s) m c.write_two.new.rest ≡ with_half m (s + 2 * p) c.args.half = search (rules, overwrites, take_rest) ∙ with_half_rest s m (2 * p) c.args.half low in
     record { answer = cond_below _ _ _ _ inside; after = ap (held s) now-is ∙ held-with_half s m p c.args.half inside; memory = now-is }

@@ -11,8 +11,8 @@ returns-then-end-line c =
     let one = at_last c.args.line.now c.loop-i.at c.stop-end.result c.stop-end.ensures.is c.if-end-line.true in
     record {
       within = tt;
-      is = field_nowhere c.args.line.now c.loop-i.-i c.args.k c.loop-i.at c.loop-i-test.true c.loop-i.invariant.1 one;
-      any = field_none c.args.line.now c.loop-i.-i c.args.k c.loop-i.at c.loop-i-test.true c.loop-i.invariant.1 one;
+      is = field_nowhere c.args.line.now c.loop-i._i c.args.k c.loop-i.at c.loop-i-test.true c.loop-i.invariant.1 one;
+      any = field_none c.args.line.now c.loop-i._i c.args.k c.loop-i.at c.loop-i-test.true c.loop-i.invariant.1 one;
     }
 
 pub loop-i-preserved : goal.loop-i-preserved
@@ -20,13 +20,13 @@ loop-i-preserved c =
     let m = at_more c.args.line.now c.loop-i.at c.stop-end.result c.stop-end.ensures.is c.if-end-line.false in
     let d = c.loop-i.invariant.1 ∙ m in (
       omega arith,
-      drop_next (fields c.args.line.now) c.loop-i.-i _ _ d,
-      omega (arith, begins_more (fields c.args.line.now) c.loop-i.-i _ _ d, c.loop-i.invariant.2, c.stop-end.ensures.is),
+      drop_next (fields c.args.line.now) c.loop-i._i _ _ d,
+      omega (arith, begins_more (fields c.args.line.now) c.loop-i._i _ _ d, c.loop-i.invariant.2, c.stop-end.ensures.is),
     )
 
 pub returns : goal.returns
 returns c =
-    let e : c.loop-i.-i ≡ c.args.k = omega arith in
+    let e : c.loop-i._i ≡ c.args.k = omega arith in
     let left = ap (λ n. drop n (fields c.args.line.now)) (sym e) ∙ c.loop-i.invariant.1 in
     record {
       within = c.loop-i.invariant.0;

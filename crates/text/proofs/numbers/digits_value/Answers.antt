@@ -9,9 +9,9 @@ returns-in-err-n c =
 
 pub loop-b-preserved : goal.loop-b-preserved
 loop-b-preserved c =
-    let h = c.in-ok-n.ensures in (
-      reads_fit (2 ^ 64) c.loop-b.n c.args.bytes.now c.loop-b.b-index c.loop-b-test.true c.in-ok-n.n h,
-      reads_on (2 ^ 64) c.loop-b.n c.args.bytes.now c.loop-b.b-index c.loop-b-test.true c.in-ok-n.n h ∙ c.loop-b.invariant.1,
+    let h = c.in_ok-n.ensures in (
+      reads_fit (2 ^ 64) c.loop-b.n c.args.bytes.now c.loop-b.b-index c.loop-b-test.true c.in_ok-n.n h,
+      reads_on (2 ^ 64) c.loop-b.n c.args.bytes.now c.loop-b.b-index c.loop-b-test.true c.in_ok-n.n h ∙ c.loop-b.invariant.1,
     )
 
 pub returns : goal.returns

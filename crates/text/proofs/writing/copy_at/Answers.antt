@@ -4,4 +4,4 @@ use Rattle.text.proofs.writing.copy_at.Goals as goal
 
 pub returns : goal.returns
 returns c =
-    overwritten-part c.args.out.now c.args.at _ c.copy-from-slice.new.self c.args.bytes.now c.copy-from-slice.ensures.after (omega arith)
+    overwritten-part c.args.out.now c.args.at _ c.copy_from_slice.new.self c.args.bytes.now c.copy_from_slice.ensures.after (omega arith)

@@ -10,4 +10,4 @@ loop-k-init c =
 
 pub loop-k-preserved : goal.loop-k-preserved
 loop-k-preserved c =
-    hex_turn c.args.out.now c.loop-k.out c.args.at c.args.width c.loop-k.k c.args.word c.loop-k.rest c.hex-byte.result c.loop-k-test.true c.loop-k.auto.k c.requires c.loop-k.invariant.0 c.loop-k.invariant.1 c.hex-byte.ensures
+    hex_turn c.args.out.now c.loop-k.out c.args.at c.args.width c.loop-k.k c.args.word c.loop-k.rest c.hex_byte.result c.loop-k-test.true c.loop-k.auto.k c.requires c.loop-k.invariant.0 c.loop-k.invariant.1 c.hex_byte.ensures
