@@ -17,15 +17,15 @@ before s i h p l =
     let e : suc (i - 1) ≡ i = omega arith in
     subst (λ j. Handy (get_or s (i - 1) (Fixed 0 0)) × (total (drop j s) + width (get_or s (i - 1) (Fixed 0 0)) ≤ 32)) e (handies-at s (i - 1) (Fixed 0 0) h q)
 
-pub overflow-sub-width : goal.overflow-sub-width
-overflow-sub-width c =
+pub overflow_sub-width : goal.overflow_sub-width
+overflow_sub-width c =
     let b = before c.args.parts.now c.loop-i.i c.requires (omega arith) c.loop-i.invariant.0 in
     let w = handy-width (get_or c.args.parts.now (c.loop-i.i - 1) (Fixed 0 0)) b.0 in
-    let e = c.width-of-width.ensures in
+    let e = c.width_of-width.ensures in
     omega arith
 
-pub value-of-requires : goal.value-of-requires
-value-of-requires c = (before c.args.parts.now c.loop-i.i c.requires (omega arith) c.loop-i.invariant.0).0
+pub value_of-requires : goal.value_of-requires
+value_of-requires c = (before c.args.parts.now c.loop-i.i c.requires (omega arith) c.loop-i.invariant.0).0
 
 pub put-bits-requires : goal.put-bits-requires
 put-bits-requires c =

@@ -5,17 +5,17 @@ use Rattle.store.specs.Halves.{held}
 use Rattle.store.proofs.Halves.{length-held, nth_held}
 use Rattle.store.proofs.bytes.read_at.Goals as goal
 
-pub returns-then-place-count-from : goal.returns-then-place-count-from
-returns-then-place-count-from c = sym (slice_get_past (held c.args.start c.args.memory.now) c.args.place (omega arith))
+pub returns-then-place-count_from : goal.returns-then-place-count_from
+returns-then-place-count_from c = sym (slice_get_past (held c.args.start c.args.memory.now) c.args.place (omega arith))
 
-pub slice-bounds-read-two-count : goal.slice-bounds-read-two-count
-slice-bounds-read-two-count c = omega (arith, length-held c.args.start c.args.memory.now)
+pub slice_bounds-read_two-count : goal.slice_bounds-read_two-count
+slice_bounds-read_two-count c = omega (arith, length-held c.args.start c.args.memory.now)
 
-pub slice-bounds-read-two-start : goal.slice-bounds-read-two-start
-slice-bounds-read-two-start c = omega (arith, length-held c.args.start c.args.memory.now)
+pub slice_bounds-read_two-start : goal.slice_bounds-read_two-start
+slice_bounds-read_two-start c = omega (arith, length-held c.args.start c.args.memory.now)
 
-pub read-two-requires : goal.read-two-requires
-read-two-requires c = simp (length-take, length-drop) (omega (arith, length-held c.args.start c.args.memory.now))
+pub read_two-requires : goal.read_two-requires
+read_two-requires c = simp (length-take, length-drop) (omega (arith, length-held c.args.start c.args.memory.now))
 
 pub returns : goal.returns
 returns c =

@@ -7,20 +7,20 @@ use Rattle.store.specs.Halves.{held, with_half}
 use Rattle.store.proofs.Halves.{length-held, held-with_half, with_half_rest}
 use Rattle.store.proofs.bytes.write_at.Goals as goal
 
-pub returns-then-place-count-from : goal.returns-then-place-count-from
-returns-then-place-count-from c =
+pub returns-then-place-count_from : goal.returns-then-place-count_from
+returns-then-place-count_from c =
     let xs = held c.args.start c.args.memory.now in
     let past : length xs ≤ c.args.place = omega arith in
     record { answer = cond_above _ _ _ _ _ past refl; after = sym (set_past xs c.args.place c.args.half past); memory = refl }
 
-pub slice-bounds-write-two-count : goal.slice-bounds-write-two-count
-slice-bounds-write-two-count c = omega (arith, length-held c.args.start c.args.memory.now)
+pub slice_bounds-write_two-count : goal.slice_bounds-write_two-count
+slice_bounds-write_two-count c = omega (arith, length-held c.args.start c.args.memory.now)
 
-pub slice-bounds-write-two-start : goal.slice-bounds-write-two-start
-slice-bounds-write-two-start c = omega (arith, length-held c.args.start c.args.memory.now)
+pub slice_bounds-write_two-start : goal.slice_bounds-write_two-start
+slice_bounds-write_two-start c = omega (arith, length-held c.args.start c.args.memory.now)
 
-pub write-two-requires : goal.write-two-requires
-write-two-requires c = simp (length-take, length-drop) (omega (arith, length-held c.args.start c.args.memory.now))
+pub write_two-requires : goal.write_two-requires
+write_two-requires c = simp (length-take, length-drop) (omega (arith, length-held c.args.start c.args.memory.now))
 
 pub returns : goal.returns
 returns c =

@@ -5,15 +5,15 @@ use Rattle.store.proofs.Answers.{refused_outside}
 use Rattle.store.proofs.Puts.{length-applied, applied_more}
 use Rattle.store.proofs.store.put_all.Goals as goal
 
-pub overflow-add-place : goal.overflow-add-place
-overflow-add-place g c = omega arith
+pub overflow_add-place : goal.overflow_add-place
+overflow_add-place g c = omega arith
 
-pub returns-in-err-put : goal.returns-in-err-put
-returns-in-err-put g c =
+pub returns-in_err-put : goal.returns-in_err-put
+returns-in_err-put g c =
     let xs = g.S.Store.halfwords c.args.store.now in
     let before = puts c.args.place (take c.loop-i.i c.args.list.now) in
     let n : length (g.S.Store.halfwords c.loop-i.store) ≡ length xs = ap length c.loop-i.invariant ∙ length-applied before xs in
-    let past = refused_outside (g.S.Store.halfwords c.loop-i.store) (c.args.place + c.loop-i.i) _ c.in-err-put.ensures.answer in
+    let past = refused_outside (g.S.Store.halfwords c.loop-i.store) (c.args.place + c.loop-i.i) _ c.in_err-put.ensures.answer in
     absurd (omega arith)
 
 pub loop-i-preserved : goal.loop-i-preserved

@@ -2,10 +2,10 @@ use Rattle.std.proofs.Common.{◌^◌, sym, refl, ap, ◌∙◌, arith}
 use Rattle.text.proofs.Readings.{reads_on, reads_fit, reads_none, reads_all}
 use Rattle.text.proofs.numbers.digits_value.Goals as goal
 
-pub returns-in-err-n : goal.returns-in-err-n
-returns-in-err-n c =
-    let h = c.in-err-n.ensures in
-    rw c.from-residual.ensures (reads_none (2 ^ 64) c.loop-b.n c.args.bytes.now c.loop-b.b-index c.loop-b-test.true h ∙ c.loop-b.invariant.1)
+pub returns-in_err-n : goal.returns-in_err-n
+returns-in_err-n c =
+    let h = c.in_err-n.ensures in
+    rw c.from_residual.ensures (reads_none (2 ^ 64) c.loop-b.n c.args.bytes.now c.loop-b.b-index c.loop-b-test.true h ∙ c.loop-b.invariant.1)
 
 pub loop-b-preserved : goal.loop-b-preserved
 loop-b-preserved c =
