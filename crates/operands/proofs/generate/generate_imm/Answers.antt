@@ -5,6 +5,6 @@ use Rattle.operands.proofs.generate.generate_imm.Goals as goal
 
 pub returns : goal.returns
 returns c =
-    let p = c.pair-of.result in
-    let e = c.pair-of.ensures ∙ to_z-of_z w64 c.args.value c.ranges.value in
+    let p = c.pair_of.result in
+    let e = c.pair_of.ensures ∙ to_z-of_z w64 c.args.value c.ranges.value in
     record { is = e; only = λ h l q. ap Some (one_pair p.0 h p.1 l (e ∙ sym q)) }
