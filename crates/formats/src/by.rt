@@ -10,9 +10,9 @@ use bits::part::Values;
 
 // The word of fields that some lawful operands have.
 pub fn word_by<F: Format>(v: &Values) -> u32
-    requires fit { Fits kind v.now }
-    requires allowed { allows v.now ≡ true }
-    ensures { result ≡ word (layout kind) v.now }
+    requires fit { Fits F.kind v.now }
+    requires allowed { F.allows v.now ≡ true }
+    ensures { result ≡ word (layout F.kind) v.now }
 {
     match F::make(v) {
         Some(o) => match F::encode(&o) {
@@ -25,7 +25,7 @@ pub fn word_by<F: Format>(v: &Values) -> u32
 
 // The fields of a word of the format: none where no lawful operands have that word.
 pub fn values_by<F: Format>(w: u32) -> Option<Values>
-    ensures { MatchOption result ((v : Values) → Fit (layout kind) v → allows v ≡ true → word (layout kind) v ≢ w) (λ v. Fit (layout kind) v × (word (layout kind) v ≡ w)) }
+    ensures { MatchOption result ((v : Values) → Fit (layout F.kind) v → F.allows v ≡ true → word (layout F.kind) v ≢ w) (λ v. Fit (layout F.kind) v × (word (layout F.kind) v ≡ w)) }
 {
     match F::read(w) {
         Some(o) => Some(F::split(&o)),

@@ -10,7 +10,7 @@ use Rattle.formats.proofs.format.Format.read.Goals as goal
 pub returns-then-join-w : goal.returns-then-join-w
 returns-then-join-w g c =
     let k = g.Self.Format.kind in
-    let parts = c.layout-of-parts.ensures.is ∙ ap layout c.kind-of.ensures in
+    let parts = c.layout_of-parts.ensures.is ∙ ap layout c.kind_of.ensures in
     let p = c.picked-v.ensures ∙ ap (λ s. picks s c.args.w) parts in
     record {
       forth = λ o e. none-some _ o e;
@@ -20,7 +20,7 @@ returns-then-join-w g c =
 pub make-requires : goal.make-requires
 make-requires g c =
     let k = g.Self.Format.kind in
-    let parts = c.layout-of-parts.ensures.is ∙ ap layout c.kind-of.ensures in
+    let parts = c.layout_of-parts.ensures.is ∙ ap layout c.kind_of.ensures in
     let p = c.picked-v.ensures ∙ ap (λ s. picks s c.args.w) parts in
     record { at = subst (Fit (layout k)) (sym p) (picks_fit (layout k) c.args.w (layout-sound k)) }
 
@@ -28,7 +28,7 @@ pub returns : goal.returns
 returns g c =
     let F = g.Self.Format in
     let k = g.Self.Format.kind in
-    let parts = c.layout-of-parts.ensures.is ∙ ap layout c.kind-of.ensures in
+    let parts = c.layout_of-parts.ensures.is ∙ ap layout c.kind_of.ensures in
     let p = c.picked-v.ensures ∙ ap (λ s. picks s c.args.w) parts in
     let joined = ap (λ s. word s c.picked-v.result) (sym parts) ∙ sym c.join.ensures ∙ c.if-join-w.false in
     record {
