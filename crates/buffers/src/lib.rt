@@ -62,8 +62,8 @@ fn place(n: usize, halfwords: &mut [u16], at: usize, w: u32)
 
 // Writes the word of the operands at `at`.
 pub fn write<F: Format>(halfwords: &mut [u16], at: usize, o: &F::Operands) -> Result<(), WriteFault>
-    ensures answer { result ≡ outcome (write_fault (fault o.now) (room (size kind) halfwords.old at)) tt }
-    ensures left { halfwords.new ≡ after (write_fault (fault o.now) (room (size kind) halfwords.old at)) (placed (size kind) halfwords.old at (word (layout kind) (values o.now))) halfwords.old }
+    ensures answer { result ≡ outcome (write_fault (F.fault o.now) (room (size F.kind) halfwords.old at)) tt }
+    ensures left { halfwords.new ≡ after (write_fault (F.fault o.now) (room (size F.kind) halfwords.old at)) (placed (size F.kind) halfwords.old at (word (layout F.kind) (F.values o.now))) halfwords.old }
 {
     let w = F::encode(o)?;
     let n = F::halfwords();
@@ -76,8 +76,8 @@ pub fn write<F: Format>(halfwords: &mut [u16], at: usize, o: &F::Operands) -> Re
 
 // The operands at `at`: those whose word stands there.
 pub fn read_at<F: Format>(halfwords: &[u16], at: usize) -> Option<F::Operands>
-    ensures forth { (o : F.Operands) → result ≡ Some o → (fault o ≡ None) × (at + size kind ≤ length halfwords.now) × (word (layout kind) (values o) ≡ word_at (size kind) halfwords.now at) }
-    ensures back { (o : F.Operands) → fault o ≡ None → at + size kind ≤ length halfwords.now → word (layout kind) (values o) ≡ word_at (size kind) halfwords.now at → result ≡ Some o }
+    ensures forth { (o : F.Operands) → result ≡ Some o → (F.fault o ≡ None) × (at + size F.kind ≤ length halfwords.now) × (word (layout F.kind) (F.values o) ≡ word_at (size F.kind) halfwords.now at) }
+    ensures back { (o : F.Operands) → F.fault o ≡ None → at + size F.kind ≤ length halfwords.now → word (layout F.kind) (F.values o) ≡ word_at (size F.kind) halfwords.now at → result ≡ Some o }
 {
     let n = F::halfwords();
     if has_room(n, halfwords, at) {
@@ -93,7 +93,7 @@ pub fn echo<F: Format>(
     at: usize,
     o: &F::Operands,
 ) -> Result<Option<F::Operands>, WriteFault>
-    ensures { result ≡ outcome (write_fault (fault o.now) (room (size kind) halfwords.old at)) (Some o.now) }
+    ensures { result ≡ outcome (write_fault (F.fault o.now) (room (size F.kind) halfwords.old at)) (Some o.now) }
 {
     write::<F>(halfwords, at, o)?;
     Ok(read_at::<F>(halfwords, at))

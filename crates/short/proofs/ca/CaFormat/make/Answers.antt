@@ -4,15 +4,15 @@ use Rattle.short.specs.declared.operands_of.CaOperands.{CaOperands}
 use Rattle.short.specs.Operands.{Ca-codes}
 use Rattle.short.proofs.ca.CaFormat.make.Goals as goal
 
-pub of-bits-requires : goal.of-bits-requires
-of-bits-requires c = c.requires.at B
+pub of_bits-requires : goal.of_bits-requires
+of_bits-requires c = c.requires.at B
 
-pub of-bits-requires-2 : goal.of-bits-requires-2
-of-bits-requires-2 c = c.requires.at D
+pub of_bits-requires-2 : goal.of_bits-requires-2
+of_bits-requires-2 c = c.requires.at D
 
 pub returns : goal.returns
 returns c =
     let v = c.args.v.now in
     let h = c.requires.at in
-    let o : CaOperands = record { opcode = v.opcode; rs2 = c.of-bits.result; funct2 = v.funct3; rd = c.of-bits-2.result; funct6 = v.funct } in
-    (none-wide (Ca-codes o) (h Opcode, (h Funct3, (h Funct, tt))), λ i. record { d = c.of-bits-2.ensures i; a = none-there v.a (h A) i; b = c.of-bits.ensures i; n = none-there v.n (h N) i; m = none-there v.m (h M) i; opcode = v.opcode; funct3 = v.funct3; funct = v.funct })
+    let o : CaOperands = record { opcode = v.opcode; rs2 = c.of_bits.result; funct2 = v.funct3; rd = c.of_bits-2.result; funct6 = v.funct } in
+    (none-wide (Ca-codes o) (h Opcode, (h Funct3, (h Funct, tt))), λ i. record { d = c.of_bits-2.ensures i; a = none-there v.a (h A) i; b = c.of_bits.ensures i; n = none-there v.n (h N) i; m = none-there v.m (h M) i; opcode = v.opcode; funct3 = v.funct3; funct = v.funct })

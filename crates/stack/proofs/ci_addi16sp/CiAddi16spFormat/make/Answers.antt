@@ -4,12 +4,12 @@ use Rattle.stack.specs.declared.operands_of.CiAddi16spOperands.{CiAddi16spOperan
 use Rattle.stack.specs.Operands.{CiAddi16sp-codes}
 use Rattle.stack.proofs.ci_addi16sp.CiAddi16spFormat.make.Goals as goal
 
-pub of-bits-requires : goal.of-bits-requires
-of-bits-requires c = c.requires.at N
+pub of_bits-requires : goal.of_bits-requires
+of_bits-requires c = c.requires.at N
 
 pub returns : goal.returns
 returns c =
     let v = c.args.v.now in
     let h = c.requires.at in
-    let o : CiAddi16spOperands = record { opcode = v.opcode; imm = c.of-bits.result; funct3 = v.funct3 } in
-    (none-wide (CiAddi16sp-codes o) (h Opcode, (h Funct3, tt)), λ i. record { d = none-there v.d (h D) i; a = none-there v.a (h A) i; b = none-there v.b (h B) i; n = c.of-bits.ensures i; m = none-there v.m (h M) i; opcode = v.opcode; funct3 = v.funct3; funct = none-there v.funct (h Funct) i })
+    let o : CiAddi16spOperands = record { opcode = v.opcode; imm = c.of_bits.result; funct3 = v.funct3 } in
+    (none-wide (CiAddi16sp-codes o) (h Opcode, (h Funct3, tt)), λ i. record { d = none-there v.d (h D) i; a = none-there v.a (h A) i; b = none-there v.b (h B) i; n = c.of_bits.ensures i; m = none-there v.m (h M) i; opcode = v.opcode; funct3 = v.funct3; funct = none-there v.funct (h Funct) i })

@@ -4,15 +4,15 @@ use Rattle.stack.specs.declared.operands_of.CiLwspOperands.{CiLwspOperands}
 use Rattle.stack.specs.Operands.{CiLwsp-codes}
 use Rattle.stack.proofs.ci_lwsp.CiLwspFormat.make.Goals as goal
 
-pub of-bits-requires : goal.of-bits-requires
-of-bits-requires c = c.requires.at N
+pub of_bits-requires : goal.of_bits-requires
+of_bits-requires c = c.requires.at N
 
-pub of-bits-requires-2 : goal.of-bits-requires-2
-of-bits-requires-2 c = c.requires.at D
+pub of_bits-requires-2 : goal.of_bits-requires-2
+of_bits-requires-2 c = c.requires.at D
 
 pub returns : goal.returns
 returns c =
     let v = c.args.v.now in
     let h = c.requires.at in
-    let o : CiLwspOperands = record { opcode = v.opcode; imm = c.of-bits.result; rd = c.of-bits-2.result; funct3 = v.funct3 } in
-    (none-wide (CiLwsp-codes o) (h Opcode, (h Funct3, tt)), λ i. record { d = c.of-bits-2.ensures i; a = none-there v.a (h A) i; b = none-there v.b (h B) i; n = c.of-bits.ensures i; m = none-there v.m (h M) i; opcode = v.opcode; funct3 = v.funct3; funct = none-there v.funct (h Funct) i })
+    let o : CiLwspOperands = record { opcode = v.opcode; imm = c.of_bits.result; rd = c.of_bits-2.result; funct3 = v.funct3 } in
+    (none-wide (CiLwsp-codes o) (h Opcode, (h Funct3, tt)), λ i. record { d = c.of_bits-2.ensures i; a = none-there v.a (h A) i; b = none-there v.b (h B) i; n = c.of_bits.ensures i; m = none-there v.m (h M) i; opcode = v.opcode; funct3 = v.funct3; funct = none-there v.funct (h Funct) i })

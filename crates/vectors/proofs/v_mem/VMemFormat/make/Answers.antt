@@ -4,18 +4,18 @@ use Rattle.vectors.specs.declared.operands_of.VMemOperands.{VMemOperands}
 use Rattle.vectors.specs.Operands.{VMem-codes}
 use Rattle.vectors.proofs.v_mem.VMemFormat.make.Goals as goal
 
-pub of-bits-requires : goal.of-bits-requires
-of-bits-requires c = c.requires.at D
+pub of_bits-requires : goal.of_bits-requires
+of_bits-requires c = c.requires.at D
 
-pub of-bits-requires-2 : goal.of-bits-requires-2
-of-bits-requires-2 c = c.requires.at A
+pub of_bits-requires-2 : goal.of_bits-requires-2
+of_bits-requires-2 c = c.requires.at A
 
-pub of-bits-requires-3 : goal.of-bits-requires-3
-of-bits-requires-3 c = c.requires.at M
+pub of_bits-requires-3 : goal.of_bits-requires-3
+of_bits-requires-3 c = c.requires.at M
 
 pub returns : goal.returns
 returns c =
     let v = c.args.v.now in
     let h = c.requires.at in
-    let o : VMemOperands = record { opcode = v.opcode; vd = c.of-bits.result; width = v.funct3; rs1 = c.of-bits-2.result; masking = c.of-bits-3.result } in
-    (none-wide (VMem-codes o) (h Opcode, (h Funct3, tt)), λ i. record { d = c.of-bits.ensures i; a = c.of-bits-2.ensures i; b = none-there v.b (h B) i; n = none-there v.n (h N) i; m = c.of-bits-3.ensures i; opcode = v.opcode; funct3 = v.funct3; funct = none-there v.funct (h Funct) i })
+    let o : VMemOperands = record { opcode = v.opcode; vd = c.of_bits.result; width = v.funct3; rs1 = c.of_bits-2.result; masking = c.of_bits-3.result } in
+    (none-wide (VMem-codes o) (h Opcode, (h Funct3, tt)), λ i. record { d = c.of_bits.ensures i; a = c.of_bits-2.ensures i; b = none-there v.b (h B) i; n = none-there v.n (h N) i; m = c.of_bits-3.ensures i; opcode = v.opcode; funct3 = v.funct3; funct = none-there v.funct (h Funct) i })
