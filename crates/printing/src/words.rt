@@ -49,8 +49,8 @@ impl Word {
 
 // The halfword at a place inside the store.
 fn half_at<S: Store>(store: &S, place: usize) -> u16
-    requires { place < length (halfwords store.now) }
-    ensures { result ≡ slice_index (halfwords store.now) place }
+    requires { place < length (S.halfwords store.now) }
+    ensures { result ≡ slice_index (S.halfwords store.now) place }
 {
     store.get(place).unwrap_or(0)
 }
@@ -65,8 +65,8 @@ fn joined(low: u16, high: u16) -> u32
 // The word at a place of the first `used` halfwords.
 fn word_at<S: Store>(store: &S, used: usize, place: usize) -> Word
     requires inside { place < used }
-    requires stored { used ≤ length (halfwords store.now) }
-    ensures { result ≡ word_at (take used (halfwords store.now)) place }
+    requires stored { used ≤ length (S.halfwords store.now) }
+    ensures { result ≡ word_at (take used (S.halfwords store.now)) place }
 {
     let low = half_at(store, place);
     if low % 4 != 3 || place + 1 == used {
@@ -100,10 +100,10 @@ fn write_row(out: &mut [u8], at: usize, place: usize, word: Word) -> usize
 // Writes the lines of the first `used` halfwords.
 fn write_rows<S: Store>(store: &S, used: usize, out: &mut [u8], at: usize) -> usize
     requires few { used ≤ 256 }
-    requires stored { used ≤ length (halfwords store.now) }
+    requires stored { used ≤ length (S.halfwords store.now) }
     requires room { at + 9 * used ≤ length out.old }
-    ensures end { result ≡ at + length (printed 0 (take used (halfwords store.now))) }
-    ensures after { out.new ≡ overwritten out.old at (printed 0 (take used (halfwords store.now))) }
+    ensures end { result ≡ at + length (printed 0 (take used (S.halfwords store.now))) }
+    ensures after { out.new ≡ overwritten out.old at (printed 0 (take used (S.halfwords store.now))) }
 {
     let mut end = at;
     let mut place = 0;
@@ -118,11 +118,11 @@ fn write_rows<S: Store>(store: &S, used: usize, out: &mut [u8], at: usize) -> us
 // Writes the names line, and the lines of the words.
 fn write_words<S: Store>(store: &S, used: usize, out: &mut [u8]) -> usize
     requires few { used ≤ 256 }
-    requires stored { used ≤ length (halfwords store.now) }
+    requires stored { used ≤ length (S.halfwords store.now) }
     requires room { 4096 ≤ length out.old }
-    ensures end { result ≡ length (words_text (take used (halfwords store.now))) }
+    ensures end { result ≡ length (words_text (take used (S.halfwords store.now))) }
     ensures short { result ≤ 4096 }
-    ensures after { out.new ≡ overwritten out.old 0 (words_text (take used (halfwords store.now))) }
+    ensures after { out.new ≡ overwritten out.old 0 (words_text (take used (S.halfwords store.now))) }
 {
     let names = write_bytes(out, 0, b"at,word\n");
     write_rows(store, used, out, names)
@@ -131,11 +131,11 @@ fn write_words<S: Store>(store: &S, used: usize, out: &mut [u8]) -> usize
 // Prints the words that stand in the first `used` halfwords of a store. Answers how many bytes it wrote, from the start of the buffer.
 pub fn print_words<S: Store>(store: &S, used: usize, out: &mut [u8]) -> usize
     requires few { used ≤ 256 }
-    requires stored { used ≤ length (halfwords store.now) }
+    requires stored { used ≤ length (S.halfwords store.now) }
     requires room { 4096 ≤ length out.old }
-    ensures end { result ≡ length (words_text (take used (halfwords store.now))) }
+    ensures end { result ≡ length (words_text (take used (S.halfwords store.now))) }
     ensures short { result ≤ 4096 }
-    ensures after { out.new ≡ overwritten out.old 0 (words_text (take used (halfwords store.now))) }
+    ensures after { out.new ≡ overwritten out.old 0 (words_text (take used (S.halfwords store.now))) }
 {
     write_words(store, used, out)
 }

@@ -5,4 +5,4 @@ use Rattle.printing.proofs.words.half_at.Goals as goal
 pub returns : goal.returns
 returns g c =
     let e = slice_get-get_or (g.S.Store.halfwords c.args.store.now) c.args.place 0 c.requires in
-    c.unwrap-or.ensures ∙ ap (λ o. unwrap_or o 0) (c.get.ensures ∙ e)
+    c.unwrap_or.ensures ∙ ap (λ o. unwrap_or o 0) (c.get.ensures ∙ e)

@@ -6,7 +6,7 @@ use Rattle.printing.proofs.words.word_at.Goals.{then-low-ne3-via-then-low-ne3, t
 
 pub returns-then-low-ne3 : goal.returns-then-low-ne3
 returns-then-low-ne3 g c =
-    one_half (g.S.Store.halfwords c.args.store.now) c.args.used c.args.place c.half-at-low.result c.requires.inside c.requires.stored c.half-at-low.ensures
+    one_half (g.S.Store.halfwords c.args.store.now) c.args.used c.args.place c.half_at-low.result c.requires.inside c.requires.stored c.half_at-low.ensures
     (elim c.then-low-ne3.branch [
       | then-low-ne3-via-then-low-ne3 w ↦ inl w.if-low-ne3.true
       | then-low-ne3-via-else-low-ne3+then-place-used w ↦ inr (omega (arith, w.if-place-used.true))
@@ -14,4 +14,4 @@ returns-then-low-ne3 g c =
 
 pub returns : goal.returns
 returns g c =
-    ap Wide c.joined.ensures ∙ two_halves (g.S.Store.halfwords c.args.store.now) c.args.used c.args.place c.half-at-low.result c.requires.inside c.requires.stored c.half-at-low.ensures c.half-at-high.result (omega arith) (omega arith) c.half-at-high.ensures
+    ap Wide c.joined.ensures ∙ two_halves (g.S.Store.halfwords c.args.store.now) c.args.used c.args.place c.half_at-low.result c.requires.inside c.requires.stored c.half_at-low.ensures c.half_at-high.result (omega arith) (omega arith) c.half_at-high.ensures

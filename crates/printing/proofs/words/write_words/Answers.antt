@@ -13,8 +13,8 @@ returns g c =
     let names = codes "at,word" ++ newline in
     let l = length-append names (printed 0 hs) in
     let fits : 0 + length (words_text hs) ≤ length c.args.out.now = omega arith in
-    let a = wrote names c.write-bytes-names.ensures.end c.write-bytes-names.ensures.after in
-    let b = wrote (printed 0 hs) c.write-rows.ensures.end c.write-rows.ensures.after in
+    let a = wrote names c.write_bytes-names.ensures.end c.write_bytes-names.ensures.after in
+    let b = wrote (printed 0 hs) c.write_rows.ensures.end c.write_rows.ensures.after in
     let all = wrote_more fits a b in
-    let end : c.write-rows.result ≡ length (words_text hs) = all.past ∙ zero-add (length (words_text hs)) in
+    let end : c.write_rows.result ≡ length (words_text hs) = all.past ∙ zero-add (length (words_text hs)) in
     record { end = end; short = omega arith; after = all.after }

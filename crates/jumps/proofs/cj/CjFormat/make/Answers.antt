@@ -4,12 +4,12 @@ use Rattle.jumps.specs.declared.operands_of.CjOperands.{CjOperands}
 use Rattle.jumps.specs.Operands.{Cj-codes}
 use Rattle.jumps.proofs.cj.CjFormat.make.Goals as goal
 
-pub of-bits-requires : goal.of-bits-requires
-of-bits-requires c = c.requires.at N
+pub of_bits-requires : goal.of_bits-requires
+of_bits-requires c = c.requires.at N
 
 pub returns : goal.returns
 returns c =
     let v = c.args.v.now in
     let h = c.requires.at in
-    let o : CjOperands = record { opcode = v.opcode; distance = c.of-bits.result; funct3 = v.funct3 } in
-    (none-wide (Cj-codes o) (h Opcode, (h Funct3, tt)), λ i. record { d = none-there v.d (h D) i; a = none-there v.a (h A) i; b = none-there v.b (h B) i; n = c.of-bits.ensures i; m = none-there v.m (h M) i; opcode = v.opcode; funct3 = v.funct3; funct = none-there v.funct (h Funct) i })
+    let o : CjOperands = record { opcode = v.opcode; distance = c.of_bits.result; funct3 = v.funct3 } in
+    (none-wide (Cj-codes o) (h Opcode, (h Funct3, tt)), λ i. record { d = none-there v.d (h D) i; a = none-there v.a (h A) i; b = none-there v.b (h B) i; n = c.of_bits.ensures i; m = none-there v.m (h M) i; opcode = v.opcode; funct3 = v.funct3; funct = none-there v.funct (h Funct) i })

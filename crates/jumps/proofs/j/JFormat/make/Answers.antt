@@ -4,15 +4,15 @@ use Rattle.jumps.specs.declared.operands_of.JOperands.{JOperands}
 use Rattle.jumps.specs.Operands.{J-codes}
 use Rattle.jumps.proofs.j.JFormat.make.Goals as goal
 
-pub of-bits-requires : goal.of-bits-requires
-of-bits-requires c = c.requires.at D
+pub of_bits-requires : goal.of_bits-requires
+of_bits-requires c = c.requires.at D
 
-pub of-bits-requires-2 : goal.of-bits-requires-2
-of-bits-requires-2 c = c.requires.at N
+pub of_bits-requires-2 : goal.of_bits-requires-2
+of_bits-requires-2 c = c.requires.at N
 
 pub returns : goal.returns
 returns c =
     let v = c.args.v.now in
     let h = c.requires.at in
-    let o : JOperands = record { opcode = v.opcode; rd = c.of-bits.result; distance = c.of-bits-2.result } in
-    (none-wide (J-codes o) (h Opcode, tt), λ i. record { d = c.of-bits.ensures i; a = none-there v.a (h A) i; b = none-there v.b (h B) i; n = c.of-bits-2.ensures i; m = none-there v.m (h M) i; opcode = v.opcode; funct3 = none-there v.funct3 (h Funct3) i; funct = none-there v.funct (h Funct) i })
+    let o : JOperands = record { opcode = v.opcode; rd = c.of_bits.result; distance = c.of_bits-2.result } in
+    (none-wide (J-codes o) (h Opcode, tt), λ i. record { d = c.of_bits.ensures i; a = none-there v.a (h A) i; b = none-there v.b (h B) i; n = c.of_bits-2.ensures i; m = none-there v.m (h M) i; opcode = v.opcode; funct3 = none-there v.funct3 (h Funct3) i; funct = none-there v.funct (h Funct) i })
