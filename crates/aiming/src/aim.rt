@@ -67,7 +67,7 @@ pub fn aimed_halfwords(jump: &Instruction, distance: i64) -> Option<Halfwords>
 
 // The halfwords of the jump at a place of the first `used`, at another distance.
 pub fn aimed_at<S: Store>(store: &S, used: usize, place: usize, distance: i64) -> Option<Halfwords>
-    ensures { listed_of result ≡ halfwords_found (aimed (jump_at (halfwords store.now) used place) distance) }
+    ensures { listed_of result ≡ halfwords_found (aimed (jump_at (S.halfwords store.now) used place) distance) }
 {
     let jump = jump_at(store, used, place)?;
     aimed_halfwords(&jump, distance)

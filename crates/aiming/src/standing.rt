@@ -12,14 +12,14 @@ use store::store::Store;
 
 // The halfword at a place of the first `used`.
 fn half_within<S: Store>(store: &S, used: usize, place: usize) -> Option<u16>
-    ensures { result ≡ slice_get (take used (halfwords store.now)) place }
+    ensures { result ≡ slice_get (take used (S.halfwords store.now)) place }
 {
     if place < used { store.get(place) } else { None }
 }
 
 // The word that begins at a place of the first `used`, whole.
 fn word_within<S: Store>(store: &S, used: usize, place: usize) -> Option<u32>
-    ensures { result ≡ word_at (take used (halfwords store.now)) place }
+    ensures { result ≡ word_at (take used (S.halfwords store.now)) place }
 {
     if place >= used {
         return None;
@@ -52,7 +52,7 @@ fn if_jump(i: Instruction) -> Option<Instruction>
 
 // The jump whose whole word begins at a place of the first `used` halfwords.
 pub fn jump_at<S: Store>(store: &S, used: usize, place: usize) -> Option<Instruction>
-    ensures { spelled result ≡ jump_at (halfwords store.now) used place }
+    ensures { spelled result ≡ jump_at (S.halfwords store.now) used place }
 {
     let w = word_within(store, used, place)?;
     let i = instruction_of(w)?;

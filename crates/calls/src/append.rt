@@ -16,9 +16,9 @@ use store::store::{Store, write};
 
 // Writes halfwords behind those used so far, and counts them.
 pub fn append<S: Store>(counts: &mut Counts, store: &mut S, list: &[u16]) -> Result<(), NoRoom>
-    ensures answer { result ≡ spaced no_room (length (halfwords store.old)) counts.old.used (length list.now) }
+    ensures answer { result ≡ spaced no_room (length (S.halfwords store.old)) counts.old.used (length list.now) }
     ensures counts { counts.new ≡ when result (more_used counts.old (length list.now)) counts.old }
-    ensures after { halfwords store.new ≡ applied (when result (puts counts.old.used list.now) []) (halfwords store.old) }
+    ensures after { S.halfwords store.new ≡ applied (when result (puts counts.old.used list.now) []) (S.halfwords store.old) }
 {
     let size = store.size();
     let used = counts.used as usize;
@@ -36,9 +36,9 @@ pub fn append_word<S: Store>(
     store: &mut S,
     i: &Instruction,
 ) -> Result<(), NoRoom>
-    ensures answer { result ≡ spaced no_room (length (halfwords store.old)) counts.old.used (length (words (item_of i.now))) }
+    ensures answer { result ≡ spaced no_room (length (S.halfwords store.old)) counts.old.used (length (words (item_of i.now))) }
     ensures counts { counts.new ≡ when result (more_used counts.old (length (words (item_of i.now)))) counts.old }
-    ensures after { halfwords store.new ≡ applied (when result (puts counts.old.used (words (item_of i.now))) []) (halfwords store.old) }
+    ensures after { S.halfwords store.new ≡ applied (when result (puts counts.old.used (words (item_of i.now))) []) (S.halfwords store.old) }
 {
     match halves_of(i) {
         Halfwords::One(a) => append(counts, store, &[a]),
@@ -52,9 +52,9 @@ pub fn append_pair<S: Store>(
     store: &mut S,
     pair: &[u16; 4],
 ) -> Result<(), NoRoom>
-    ensures answer { result ≡ spaced no_room (length (halfwords store.old)) counts.old.used 4 }
+    ensures answer { result ≡ spaced no_room (length (S.halfwords store.old)) counts.old.used 4 }
     ensures counts { counts.new ≡ when result (more_used counts.old 4) counts.old }
-    ensures after { halfwords store.new ≡ applied (when result (puts counts.old.used pair.now) []) (halfwords store.old) }
+    ensures after { S.halfwords store.new ≡ applied (when result (puts counts.old.used pair.now) []) (S.halfwords store.old) }
 {
     append(counts, store, pair)
 }

@@ -21,10 +21,10 @@ pub fn constant<S: Store>(
     d: i64,
     value: i64,
 ) -> Result<(), ConstantFault>
-    ensures answer { result ≡ constanted (length (halfwords store.old)) counts.old.used counts.old.slots d value }
+    ensures answer { result ≡ constanted (length (S.halfwords store.old)) counts.old.used counts.old.slots d value }
     ensures counts { counts.new ≡ when result (more_slots counts.old) counts.old }
     ensures book { book.new ≡ when result (slot_in book.old counts.old.slots counts.old.used d) book.old }
-    ensures after { halfwords store.new ≡ applied (when result (puts counts.old.used (pair d value)) []) (halfwords store.old) }
+    ensures after { S.halfwords store.new ≡ applied (when result (puts counts.old.used (pair d value)) []) (S.halfwords store.old) }
 {
     let register = register_of(d).ok_or(ConstantFault::Register(d))?;
     let (high, low) = generate_imm(value).ok_or(ConstantFault::Range(value))?;

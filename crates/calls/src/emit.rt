@@ -16,9 +16,9 @@ use store::store::Store;
 
 // Writes an instruction, but no jump, behind the halfwords used so far.
 pub fn emit<S: Store>(counts: &mut Counts, store: &mut S, i: &Instruction) -> Result<(), EmitFault>
-    ensures answer { result ≡ emitted (length (halfwords store.old)) counts.old.used (item_of i.now) }
+    ensures answer { result ≡ emitted (length (S.halfwords store.old)) counts.old.used (item_of i.now) }
     ensures counts { counts.new ≡ when result (more_used counts.old (length (words (item_of i.now)))) counts.old }
-    ensures after { halfwords store.new ≡ applied (when result (puts counts.old.used (words (item_of i.now))) []) (halfwords store.old) }
+    ensures after { S.halfwords store.new ≡ applied (when result (puts counts.old.used (words (item_of i.now))) []) (S.halfwords store.old) }
 {
     if is_jump(i) {
         return Err(EmitFault::Build(BuildFault::Jump));

@@ -55,8 +55,8 @@ fn test_edits(book: &Book, counts: Counts, edits: &[Edit]) -> Result<(), ChangeF
 
 // Writes the pair of one entry's slot.
 fn write_edit<S: Store>(store: &mut S, book: &Book, counts: Counts, edit: Edit)
-    requires { counts.used ≤ length (halfwords store.old) }
-    ensures { halfwords store.new ≡ applied (pair_puts counts.used edit.value (numbered (slots_in counts book.now) edit.slot)) (halfwords store.old) }
+    requires { counts.used ≤ length (S.halfwords store.old) }
+    ensures { S.halfwords store.new ≡ applied (pair_puts counts.used edit.value (numbered (slots_in counts book.now) edit.slot)) (S.halfwords store.old) }
 {
     if let Some(slot) = slot_of(book, counts, edit.slot) {
         if slot.place <= counts.used && counts.used - slot.place >= 4 {
@@ -76,8 +76,8 @@ fn write_edit<S: Store>(store: &mut S, book: &Book, counts: Counts, edit: Edit)
 
 // Writes the pair of each entry's slot, in order.
 fn write_edits<S: Store>(store: &mut S, book: &Book, counts: Counts, edits: &[Edit])
-    requires { counts.used ≤ length (halfwords store.old) }
-    ensures { halfwords store.new ≡ changed (slots_in counts book.now) counts.used edits.now (halfwords store.old) }
+    requires { counts.used ≤ length (S.halfwords store.old) }
+    ensures { S.halfwords store.new ≡ changed (slots_in counts book.now) counts.used edits.now (S.halfwords store.old) }
 {
     for k in 0..edits.len() {
         write_edit(store, book, counts, edits[k]);
@@ -91,8 +91,8 @@ pub fn change<S: Store>(
     book: &Book,
     edits: &[Edit],
 ) -> Result<(), ChangeFault>
-    ensures answer { result ≡ changed_answer (length (halfwords store.old)) counts.used (slots_in counts book.now) edits.now }
-    ensures after { halfwords store.new ≡ applied (when result (edit_puts (slots_in counts book.now) counts.used edits.now) []) (halfwords store.old) }
+    ensures answer { result ≡ changed_answer (length (S.halfwords store.old)) counts.used (slots_in counts book.now) edits.now }
+    ensures after { S.halfwords store.new ≡ applied (when result (edit_puts (slots_in counts book.now) counts.used edits.now) []) (S.halfwords store.old) }
 {
     if store.size() < counts.used as usize {
         return Err(ChangeFault::Full);

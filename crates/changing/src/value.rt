@@ -13,7 +13,7 @@ use store::store::Store;
 
 // The halfword at a place, 0 outside.
 fn half_at<S: Store>(store: &S, place: usize) -> u16
-    ensures { result ≡ slice_index (halfwords store.now) place }
+    ensures { result ≡ slice_index (S.halfwords store.now) place }
 {
     match store.get(place) {
         Some(half) => half,
@@ -23,7 +23,7 @@ fn half_at<S: Store>(store: &S, place: usize) -> u16
 
 // The number in the four halfwords from a place up.
 fn read_pair<S: Store>(store: &S, place: u32) -> i64
-    ensures { result ≡ held_at (halfwords store.now) place }
+    ensures { result ≡ held_at (S.halfwords store.now) place }
 {
     let at = place as usize;
     held_by(
@@ -36,7 +36,7 @@ fn read_pair<S: Store>(store: &S, place: u32) -> i64
 
 // The number that a slot of a sealed program holds.
 pub fn value<S: Store>(counts: Counts, store: &S, book: &Book, slot: i64) -> Result<i64, ValueFault>
-    ensures { result ≡ valued (halfwords store.now) counts.used (slots_in counts book.now) slot }
+    ensures { result ≡ valued (S.halfwords store.now) counts.used (slots_in counts book.now) slot }
 {
     if store.size() < counts.used as usize {
         return Err(ValueFault::Full);

@@ -33,7 +33,7 @@ use wide::operands_of::{IOperands, ROperands, SOperands, UOperands};
 
 // The word of operands in two halfwords.
 fn wide_word<F: Format>(o: &F::Operands) -> Result<u32, EncodeFault>
-    ensures { result ≡ answered (fault o.now) (word (layout kind) (values o.now)) }
+    ensures { result ≡ answered (F.fault o.now) (word (layout F.kind) (F.values o.now)) }
 {
     let w = F::encode(o)?;
     Ok(w)
@@ -41,9 +41,9 @@ fn wide_word<F: Format>(o: &F::Operands) -> Result<u32, EncodeFault>
 
 // The word of lawful operands in one halfword.
 fn short_word<F: Format>(o: &F::Operands) -> u16
-    requires short { size kind ≡ 1 }
-    requires lawful { fault o.now ≡ None }
-    ensures { result ≡ word (layout kind) (values o.now) }
+    requires short { size F.kind ≡ 1 }
+    requires lawful { F.fault o.now ≡ None }
+    ensures { result ≡ word (layout F.kind) (F.values o.now) }
 {
     match F::encode(o) {
         Ok(w) => w as u16,

@@ -11,7 +11,7 @@ use store::store::Store;
 
 // The jump whose whole word begins at a place of the first `used` halfwords.
 pub fn jump_standing<S: Store>(store: &S, used: u32, place: u32) -> Option<Instruction>
-    ensures is { spelled result ≡ jump_standing (halfwords store.now) used place }
+    ensures is { spelled result ≡ jump_standing (S.halfwords store.now) used place }
     ensures jumps { IfSome result (λ i. jumps (item_of i) ≡ true) }
 {
     jump_at(store, used as usize, place as usize)

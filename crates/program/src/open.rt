@@ -43,9 +43,9 @@ impl Open {
 
     // Writes the instruction's halfwords behind those used so far.
     pub fn emit<S: Store>(&mut self, store: &mut S, i: &Instruction) -> Result<(), EmitFault>
-        ensures answer { result ≡ emitted (length (halfwords store.old)) self.old.counts.used (halfwords_in i.now) }
+        ensures answer { result ≡ emitted (length (S.halfwords store.old)) self.old.counts.used (halfwords_in i.now) }
         ensures counts { self.new.counts ≡ when result (more_used self.old.counts (length (halfwords_in i.now))) self.old.counts }
-        ensures after { halfwords store.new ≡ applied (when result (puts self.old.counts.used (halfwords_in i.now)) []) (halfwords store.old) }
+        ensures after { S.halfwords store.new ≡ applied (when result (puts self.old.counts.used (halfwords_in i.now)) []) (S.halfwords store.old) }
     {
         match halfwords_of(i) {
             Halfwords::One(a) => append(&mut self.counts, store, &[a]),
@@ -60,9 +60,9 @@ impl Open {
         op: Operation,
         fields: Fields,
     ) -> Result<(), EmitFault>
-        ensures answer { result ≡ built_emitted (length (halfwords store.old)) self.old.counts.used op.place fields }
+        ensures answer { result ≡ built_emitted (length (S.halfwords store.old)) self.old.counts.used op.place fields }
         ensures counts { self.new.counts ≡ when result (more_used self.old.counts (length (halfwords_of op.place fields))) self.old.counts }
-        ensures after { halfwords store.new ≡ applied (when result (puts self.old.counts.used (halfwords_of op.place fields)) []) (halfwords store.old) }
+        ensures after { S.halfwords store.new ≡ applied (when result (puts self.old.counts.used (halfwords_of op.place fields)) []) (S.halfwords store.old) }
     {
         let i = build(op, fields)?;
         self.emit(store, &i)
@@ -71,9 +71,9 @@ impl Open {
 
 // Writes halfwords behind those used so far.
 fn append<S: Store>(counts: &mut Counts, store: &mut S, list: &[u16]) -> Result<(), EmitFault>
-    ensures answer { result ≡ spaced (length (halfwords store.old)) counts.old.used (length list.now) }
+    ensures answer { result ≡ spaced (length (S.halfwords store.old)) counts.old.used (length list.now) }
     ensures counts { counts.new ≡ when result (more_used counts.old (length list.now)) counts.old }
-    ensures after { halfwords store.new ≡ applied (when result (puts counts.old.used list.now) []) (halfwords store.old) }
+    ensures after { S.halfwords store.new ≡ applied (when result (puts counts.old.used list.now) []) (S.halfwords store.old) }
 {
     let size = store.size();
     if counts.used > size || list.len() > size - counts.used {

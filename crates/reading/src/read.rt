@@ -11,7 +11,7 @@ use store::store::Store;
 
 // The word that begins at a place: a second halfword belongs to it when the low two bits of the first are both 1.
 fn word_at<S: Store>(store: &S, place: usize) -> Option<u32>
-    ensures { result ≡ word_at (halfwords store.now) place }
+    ensures { result ≡ word_at (S.halfwords store.now) place }
 {
     if place >= store.size() {
         return None;
@@ -35,7 +35,7 @@ fn answer(w: u32, found: Option<Instruction>) -> Result<Instruction, ReadFault>
 
 // The instruction that begins at a place of a store.
 pub fn read<S: Store>(store: &S, place: usize) -> Result<Instruction, ReadFault>
-    ensures { ReadsAt (word_at (halfwords store.now) place) place result }
+    ensures { ReadsAt (word_at (S.halfwords store.now) place) place result }
 {
     match word_at(store, place) {
         Some(w) => answer(w, read_word(w)),

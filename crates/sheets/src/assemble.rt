@@ -22,9 +22,9 @@ fn take_line<S: Store>(
     columns: &Columns,
     line: &[u8],
 ) -> Result<(), LineFault>
-    ensures answer { result ≡ answered_line (length (halfwords store.old)) program.old.counts.used (lined columns.now line.now) }
+    ensures answer { result ≡ answered_line (length (S.halfwords store.old)) program.old.counts.used (lined columns.now line.now) }
     ensures used { program.new.counts.used ≡ when result (program.old.counts.used + length (said (lined columns.now line.now))) program.old.counts.used }
-    ensures after { halfwords store.new ≡ applied (when result (puts program.old.counts.used (said (lined columns.now line.now))) []) (halfwords store.old) }
+    ensures after { S.halfwords store.new ≡ applied (when result (puts program.old.counts.used (said (lined columns.now line.now))) []) (S.halfwords store.old) }
 {
     let l = Line::of(columns, line)?;
     program.emit_fields(store, l.op, l.fields)?;
@@ -42,7 +42,7 @@ fn take_lines<S: Store>(
     requires empty { program.old.counts.used ≡ 0 }
     requires begun { 0 < from }
     requires short { length input.now ≤ 4096 }
-    ensures { Comes (listed_from (length (halfwords store.old)) columns.now 2 [] (lines (drop from input.now))) result (length (halfwords store.old)) program.new.counts.used (halfwords store.new) }
+    ensures { Comes (listed_from (length (S.halfwords store.old)) columns.now 2 [] (lines (drop from input.now))) result (length (S.halfwords store.old)) program.new.counts.used (S.halfwords store.new) }
 {
     let mut at = from;
     let mut number = 2;
@@ -68,7 +68,7 @@ fn take_lines<S: Store>(
 // Takes a sheet into a program.
 pub(crate) fn assemble<S: Store>(input: &[u8], store: &mut S) -> Result<Open, SheetFault>
     requires { length input.now ≤ 4096 }
-    ensures { Assembled (listed (length (halfwords store.old)) (lines input.now)) result (length (halfwords store.old)) (halfwords store.new) }
+    ensures { Assembled (listed (length (S.halfwords store.old)) (lines input.now)) result (length (S.halfwords store.old)) (S.halfwords store.new) }
 {
     let names = SheetFault {
         line: 1,
