@@ -6,5 +6,5 @@ use Rattle.instructions.proofs.build.known_form.Goals as goal
 
 pub returns : goal.returns
 returns c =
-    let e = c.form-of.ensures in
+    let e = c.form_of.ensures in
     record { is = e; workable = subst (λ (r : Form). Workable r.n) (sym e) (form_agrees c.args.op.place c.args.op.real).works }

@@ -6,10 +6,10 @@ use Rattle.instructions.specs.Faults.{number_ok, Workable}
 use Rattle.instructions.proofs.Constants.{neg-count}
 use Rattle.instructions.proofs.raws.raw_number.Goals as goal
 
-pub overflow-sub-result : goal.overflow-sub-result
-overflow-sub-result c =
+pub overflow_sub-result : goal.overflow_sub-result
+overflow_sub-result c =
     let e = to_z-of_z w64 c.args.n c.ranges.n in
-    let q : c.unsigned-abs-size.result ≡ nat_abs c.args.n = subst (λ z. c.unsigned-abs-size.result ≡ nat_abs z) e c.unsigned-abs-size.ensures.value in
+    let q : c.unsigned_abs-size.result ≡ nat_abs c.args.n = subst (λ z. c.unsigned_abs-size.result ≡ nat_abs z) e c.unsigned_abs-size.ensures.value in
     let t = subst (λ z. lt_z z (pos 0) ≡ true) e c.if-n-lt0.true in
     let o = subst (λ u. number_ok u c.args.n ≡ true) c.in-Signed.is c.requires.fits in
     let w = subst Workable c.in-Signed.is c.requires.works in

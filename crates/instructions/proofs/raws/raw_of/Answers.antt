@@ -5,23 +5,23 @@ use Rattle.instructions.specs.Words.{raw_number}
 use Rattle.instructions.proofs.Checks.{range_at}
 use Rattle.instructions.proofs.raws.raw_of.Goals as goal
 
-pub raw-reg-requires : goal.raw-reg-requires
-raw-reg-requires c =
+pub raw_reg-requires : goal.raw_reg-requires
+raw_reg-requires c =
     let s : SFits w64 c.args.f.now.d = search rules in
     subst (λ z. reg_ok c.args.form.now.d z ≡ true) (sym (to_z-of_z w64 c.args.f.now.d s)) (range_at c.args.form.now c.args.f.now c.requires.lawful 0)
 
-pub raw-reg-requires-2 : goal.raw-reg-requires-2
-raw-reg-requires-2 c =
+pub raw_reg-requires-2 : goal.raw_reg-requires-2
+raw_reg-requires-2 c =
     let s : SFits w64 c.args.f.now.a = search rules in
     subst (λ z. reg_ok c.args.form.now.a z ≡ true) (sym (to_z-of_z w64 c.args.f.now.a s)) (range_at c.args.form.now c.args.f.now c.requires.lawful 1)
 
-pub raw-reg-requires-3 : goal.raw-reg-requires-3
-raw-reg-requires-3 c =
+pub raw_reg-requires-3 : goal.raw_reg-requires-3
+raw_reg-requires-3 c =
     let s : SFits w64 c.args.f.now.b = search rules in
     subst (λ z. reg_ok c.args.form.now.b z ≡ true) (sym (to_z-of_z w64 c.args.f.now.b s)) (range_at c.args.form.now c.args.f.now c.requires.lawful 2)
 
-pub raw-number-requires : goal.raw-number-requires
-raw-number-requires c =
+pub raw_number-requires : goal.raw_number-requires
+raw_number-requires c =
     let s : SFits w64 c.args.f.now.n = search rules in
     let e = sym (to_z-of_z w64 c.args.f.now.n s) in
     record {
@@ -30,7 +30,7 @@ raw-number-requires c =
       within = subst (λ z. raw_number c.args.form.now.n z < 2 ^ 32) e c.requires.narrow;
     }
 
-pub raw-mask-requires : goal.raw-mask-requires
-raw-mask-requires c =
+pub raw_mask-requires : goal.raw_mask-requires
+raw_mask-requires c =
     let s : SFits w64 c.args.f.now.m = search rules in
     subst (λ z. mask_ok c.args.form.now.m z ≡ true) (sym (to_z-of_z w64 c.args.f.now.m s)) (range_at c.args.form.now c.args.f.now c.requires.lawful 4)

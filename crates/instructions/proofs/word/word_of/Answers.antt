@@ -21,15 +21,15 @@ agrees_here i r e = subst Agrees (sym e) (form_agrees i.op.place i.op.real)
 pub raw_of-values-requires : goal.raw_of-values-requires
 raw_of-values-requires c =
     let i = c.args.i.now in
-    let r = c.known-form-form.result in
-    let e = c.known-form-form.ensures.is ∙ ap (λ (o : Operation). form_at o.place) c.op.ensures in
+    let r = c.known_form-form.result in
+    let e = c.known_form-form.ensures.is ∙ ap (λ (o : Operation). form_at o.place) c.op.ensures in
     let l = lawful_here i r c.fields.result e c.fields.ensures in
-    record { works = c.known-form-form.ensures.workable; lawful = l; narrow = number_32 r c.fields.result (agrees_here i r e) l }
+    record { works = c.known_form-form.ensures.workable; lawful = l; narrow = number_32 r c.fields.result (agrees_here i r e) l }
 
-pub word-for-requires : goal.word-for-requires
-word-for-requires c =
+pub word_for-requires : goal.word_for-requires
+word_for-requires c =
     let i = c.args.i.now in
-    let r = c.known-form-form.result in
-    let e = c.known-form-form.ensures.is ∙ ap (λ (o : Operation). form_at o.place) c.op.ensures in
+    let r = c.known_form-form.result in
+    let e = c.known_form-form.ensures.is ∙ ap (λ (o : Operation). form_at o.place) c.op.ensures in
     let l = lawful_here i r c.fields.result e c.fields.ensures in
     record { at = subst (Fit (layout r.kind)) (sym c.raw_of-values.ensures) (raw-fits r c.fields.result (agrees_here i r e) l) }
