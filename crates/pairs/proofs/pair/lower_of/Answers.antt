@@ -10,12 +10,12 @@ use Rattle.pairs.proofs.pair.lower_of.Goals as goal
 
 pub of-requires : goal.of-requires
 of-requires c =
-    spelled-lawful c.addi.ensures c.addi-fields.ensures (addi_lawful c.args.register.number c.args.low.value c.args.register.ok c.args.low.ok)
+    spelled-lawful c.addi.ensures c.addi_fields.ensures (addi_lawful c.args.register.number c.args.low.value c.args.register.ok c.args.low.ok)
 
 pub returns : goal.returns
 returns c =
     let p = ap (λ (o : Operation). o.place) c.of.ensures.op ∙ c.addi.ensures in
     record {
-      halfwords = ap₂ halfwords_of p (c.of.ensures.fields ∙ c.addi-fields.ensures);
+      halfwords = ap₂ halfwords_of p (c.of.ensures.fields ∙ c.addi_fields.ensures);
       two = ap (λ k. size (form_at k).kind) p ∙ addi_size;
     }

@@ -5,8 +5,8 @@ use Rattle.reading.proofs.fields.scaled.Goals as goal
 below : (x u : ℕ) → u ≤ 16 → x < 4294967296 → x * u < 2 ^ 63
 below x u h k = let m = mul-le-mul_left x h in omega arith
 
-pub overflow-cast-result-3 : goal.overflow-cast-result-3
-overflow-cast-result-3 c = let b = below c.args.x c.args.unit c.requires (omega arith) in record { sfits = b }
+pub overflow_cast-result-3 : goal.overflow_cast-result-3
+overflow_cast-result-3 c = let b = below c.args.x c.args.unit c.requires (omega arith) in record { sfits = b }
 
 pub returns : goal.returns
 returns c = to_z_pos w64 (c.args.x * c.args.unit) (below c.args.x c.args.unit c.requires (omega arith))

@@ -13,4 +13,4 @@ returns-in-Some c =
     )
 
 pub loop-place-preserved : goal.loop-place-preserved
-loop-place-preserved c = below_more _ _ c.loop-place.invariant c.in-default.ensures
+loop-place-preserved c = below_more _ _ c.loop-place.invariant c.in_default.ensures

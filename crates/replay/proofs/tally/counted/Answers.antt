@@ -20,7 +20,7 @@ pub returns : goal.returns
 returns c =
     let i = c.loop-line.invariant in
     let bytes = c.args.text.now in
-    let e = sym c.in-default.ensures.is in
+    let e = sym c.in_default.ensures.is in
     record {
       lines = omega (arith, i.3, no_more bytes c.loop-line.at e);
       equal = omega (arith, i.4, none-judged bytes c.loop-line.at e);

@@ -11,11 +11,11 @@ use Rattle.program.specs.Calls.{more_used, emitted, after_build}
 use Rattle.program.proofs.Built.{broken, whole}
 use Rattle.program.proofs.open.Open.emit_fields.Goals as goal
 
-pub returns-in-err-i : goal.returns-in-err-i
-returns-in-err-i g c =
-    let p = err_from_is_err_and c.from-residual.result c.from-residual.ensures.1 in
+pub returns-in_err-i : goal.returns-in_err-i
+returns-in_err-i g c =
+    let p = err_from_is_err_and c.from_residual.result c.from_residual.ensures.1 in
     let q = p.1 ∙ ap Err p.2 in
-    let b = broken (build_fault (form_at c.args.op.place) c.args.fields) c.args.op c.args.fields c.in-err-i.field-0.0 (ap shown (sym c.in-err-i.was) ∙ c.build.ensures) in
+    let b = broken (build_fault (form_at c.args.op.place) c.args.fields) c.args.op c.args.fields c.in_err-i.field-0.0 (ap shown (sym c.in_err-i.was) ∙ c.build.ensures) in
     let n = length (g.S.Store.halfwords c.args.store.now) in
     let u = c.args.self.now.counts in
     let hs = halfwords_of c.args.op.place c.args.fields in
@@ -27,8 +27,8 @@ returns-in-err-i g c =
 
 pub returns : goal.returns
 returns g c =
-    let w = whole (build_fault (form_at c.args.op.place) c.args.fields) c.args.op c.in-ok-i.i.op c.args.fields c.in-ok-i.i.fields (ap shown (sym c.in-ok-i.was) ∙ c.build.ensures) in
-    let h : halfwords_of c.in-ok-i.i.op.place c.in-ok-i.i.fields ≡ halfwords_of c.args.op.place c.args.fields = ap₂ (λ (o : Operation) (f : Fields). halfwords_of o.place f) w.1 w.2 in
+    let w = whole (build_fault (form_at c.args.op.place) c.args.fields) c.args.op c.in_ok-i.i.op c.args.fields c.in_ok-i.i.fields (ap shown (sym c.in_ok-i.was) ∙ c.build.ensures) in
+    let h : halfwords_of c.in_ok-i.i.op.place c.in_ok-i.i.fields ≡ halfwords_of c.args.op.place c.args.fields = ap₂ (λ (o : Operation) (f : Fields). halfwords_of o.place f) w.1 w.2 in
     let n = length (g.S.Store.halfwords c.args.store.now) in
     let u = c.args.self.now.counts in
     record {
