@@ -19,7 +19,7 @@ pub returns-in-Cj : goal.returns-in-Cj
 returns-in-Cj c =
     λ k f h t e q. aimed_in kind.Cj _ _ _ refl distances_Cj c.args.w (to_z w64 (of_z w64 c.args.d)) c.aim-by-in-Cj.result c.aim-by-in-Cj.ensures k f h t (e ∙ c.in-Cj.is) q ∙ ap (λ z. worded (aimed (reaching_only (Some (k, f))) z)) (to_z-of_z w64 c.args.d c.ranges.d)
 
-pub returns-in-default : goal.returns-in-default
-returns-in-default c =
+pub returns-in_default : goal.returns-in_default
+returns-in_default c =
     let n : reaches c.args.kind ≡ false = search rules in
     λ k f h t e q. not_aimed k f c.args.d (ap reaches e ∙ n)

@@ -16,4 +16,4 @@ found cells used p i z r s e h =
 
 pub returns : goal.returns
 returns g c =
-    found (g.S.Store.halfwords c.args.store.now) c.args.used c.args.place c.in-ok-jump.jump c.args.distance _ c.ranges.distance c.in-ok-jump.ensures c.aimed-halfwords.ensures
+    found (g.S.Store.halfwords c.args.store.now) c.args.used c.args.place c.in_ok-jump.jump c.args.distance _ c.ranges.distance c.in_ok-jump.ensures c.aimed_halfwords.ensures

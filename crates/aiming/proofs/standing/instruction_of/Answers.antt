@@ -22,4 +22,4 @@ told w None h = none w h (instruction_of w) refl
 told w (Some i) h = sym (known w i.op.place i.fields i.op.real i.ok ((h i).0 refl))
 
 pub returns : goal.returns
-returns c = told c.args.w c.read-word.result c.read-word.ensures
+returns c = told c.args.w c.read_word.result c.read_word.ensures
