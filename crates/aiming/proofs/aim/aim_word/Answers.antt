@@ -9,15 +9,15 @@ use Rattle.aiming.proofs.aim.aim_word.Goals as goal
 
 pub returns-in-B : goal.returns-in-B
 returns-in-B c =
-    λ k f h t e q. aimed_in kind.B _ _ _ refl distances_B c.args.w (to_z w64 (of_z w64 c.args.d)) c.aim-by.result c.aim-by.ensures k f h t (e ∙ c.in-B.is) q ∙ ap (λ z. worded (aimed (reaching_only (Some (k, f))) z)) (to_z-of_z w64 c.args.d c.ranges.d)
+    λ k f h t e q. aimed_in kind.B _ _ _ refl distances_B c.args.w (to_z w64 (of_z w64 c.args.d)) c.aim_by.result c.aim_by.ensures k f h t (e ∙ c.in-B.is) q ∙ ap (λ z. worded (aimed (reaching_only (Some (k, f))) z)) (to_z-of_z w64 c.args.d c.ranges.d)
 
 pub returns-in-J : goal.returns-in-J
 returns-in-J c =
-    λ k f h t e q. aimed_in kind.J _ _ _ refl distances_J c.args.w (to_z w64 (of_z w64 c.args.d)) c.aim-by-in-J.result c.aim-by-in-J.ensures k f h t (e ∙ c.in-J.is) q ∙ ap (λ z. worded (aimed (reaching_only (Some (k, f))) z)) (to_z-of_z w64 c.args.d c.ranges.d)
+    λ k f h t e q. aimed_in kind.J _ _ _ refl distances_J c.args.w (to_z w64 (of_z w64 c.args.d)) c.aim_by-in-J.result c.aim_by-in-J.ensures k f h t (e ∙ c.in-J.is) q ∙ ap (λ z. worded (aimed (reaching_only (Some (k, f))) z)) (to_z-of_z w64 c.args.d c.ranges.d)
 
 pub returns-in-Cj : goal.returns-in-Cj
 returns-in-Cj c =
-    λ k f h t e q. aimed_in kind.Cj _ _ _ refl distances_Cj c.args.w (to_z w64 (of_z w64 c.args.d)) c.aim-by-in-Cj.result c.aim-by-in-Cj.ensures k f h t (e ∙ c.in-Cj.is) q ∙ ap (λ z. worded (aimed (reaching_only (Some (k, f))) z)) (to_z-of_z w64 c.args.d c.ranges.d)
+    λ k f h t e q. aimed_in kind.Cj _ _ _ refl distances_Cj c.args.w (to_z w64 (of_z w64 c.args.d)) c.aim_by-in-Cj.result c.aim_by-in-Cj.ensures k f h t (e ∙ c.in-Cj.is) q ∙ ap (λ z. worded (aimed (reaching_only (Some (k, f))) z)) (to_z-of_z w64 c.args.d c.ranges.d)
 
 pub returns-in_default : goal.returns-in_default
 returns-in_default c =

@@ -7,8 +7,8 @@ use Rattle.sheets.specs.Sheet.{answer, text_of}
 use Rattle.sheets.proofs.Rows.{words-answer}
 use Rattle.sheets.proofs.sheet.write_answer.Goals as goal
 
-pub print-words-requires : goal.print-words-requires
-print-words-requires c =
+pub print_words-requires : goal.print_words-requires
+print_words-requires c =
     let s = c.in-Ok.ensures.1.1 in
     let room = ap length c.new-store.ensures in
     record { few = omega (arith, c.used.ensures, s.fits, room); stored = omega (arith, c.used.ensures, s.fits, s.size); room = c.requires.room }
@@ -19,7 +19,7 @@ returns-in-Ok c =
     let room = ap length c.new-store.ensures in
     let w = ap (λ n. words_text (take n c.assemble.new.store.halfwords)) c.used.ensures ∙ words-answer c.args.input.now l.0 c.in-Ok.program.counts.used c.assemble.new.store.halfwords (subst (λ n. listed n (lines c.args.input.now) ≡ Ok l.0) room l.1.0) l.1.1.words in
     record {
-      end = c.print-words.ensures.end ∙ ap length w;
-      short = c.print-words.ensures.short;
-      after = c.print-words.ensures.after ∙ ap (overwritten c.args.output.now 0) w;
+      end = c.print_words.ensures.end ∙ ap length w;
+      short = c.print_words.ensures.short;
+      after = c.print_words.ensures.after ∙ ap (overwritten c.args.output.now 0) w;
     }
