@@ -4,4 +4,4 @@ use Rattle.items.proofs.jumps.jump_standing.Goals as goal
 
 pub returns : goal.returns
 unfolding jumps jump_standing
-returns g c = record { is = c.jump-at.ensures; jumps = ? }
+returns g c = record { is = c.jump_at.ensures; jumps = ? }

@@ -3,4 +3,4 @@ use Rattle.items.proofs.Answered.{generated}
 use Rattle.items.proofs.pairs.generate_imm.Goals as goal
 
 pub returns : goal.returns
-returns c = let f = c.ranges.value in generated c.generate-imm.result c.args.value (simp to_z-of_z at c.generate-imm.ensures.is)
+returns c = let f = c.ranges.value in generated c.generate_imm.result c.args.value (simp to_z-of_z at c.generate_imm.ensures.is)

@@ -5,4 +5,4 @@ use Rattle.items.proofs.pairs.held_by.Goals as goal
 
 pub returns : goal.returns
 unfolding held
-returns c = let f : SFits w64 c.held-in.result = search rules in simp to_z-of_z c.held-in.ensures
+returns c = let f : SFits w64 c.held_in.result = search rules in simp to_z-of_z c.held_in.ensures

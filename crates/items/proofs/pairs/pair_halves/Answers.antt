@@ -6,4 +6,4 @@ use Rattle.items.proofs.pairs.pair_halves.Goals as goal
 
 pub returns : goal.returns
 unfolding words upper lower
-returns c = λ v e. c.pair-of.ensures ∙ generated_pair v c.args.high c.args.low e c.args.register.number
+returns c = λ v e. c.pair_of.ensures ∙ generated_pair v c.args.high c.args.low e c.args.register.number

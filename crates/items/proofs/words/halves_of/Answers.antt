@@ -3,4 +3,4 @@ use Rattle.items.proofs.words.halves_of.Goals as goal
 
 pub returns : goal.returns
 unfolding words
-returns c = c.halfwords-of.ensures
+returns c = c.halfwords_of.ensures
