@@ -15,13 +15,13 @@ mod tests {
     }
 
     // The sheet is answered by that text, and the bytes of the output past it stay.
-    fn answered(rt: &impl Abort, input: &[u8], answer: &[u8]) -> Result<(), Fail> {
+    fn answered(rt: &impl Abort, name: &str, input: &[u8], answer: &[u8]) -> Result<(), Fail> {
         let mut bytes = [0xaau8; 4096];
         let output: &mut [u8] = &mut bytes;
         let n = sheet(input, output)?;
-        assert_eq!(rt; &output[0..n], answer);
+        assert_eq!(rt; &output[0..n], answer, "{name}");
         for b in &output[n..] {
-            assert_eq!(rt; *b, 0xaa);
+            assert_eq!(rt; *b, 0xaa, "{name}");
         }
         Ok(())
     }
@@ -29,7 +29,12 @@ mod tests {
     // Every sheet of a table has its answer.
     fn all(rt: &impl Abort, cases: &[Case]) -> Result<(), Fail> {
         for case in cases {
-            answered(rt, case.sheet.as_bytes(), case.answer.as_bytes()).note(case.sheet)?;
+            answered(
+                rt,
+                case.sheet,
+                case.sheet.as_bytes(),
+                case.answer.as_bytes(),
+            )?;
         }
         Ok(())
     }
@@ -336,26 +341,40 @@ mod tests {
     fn odd_bytes(rt: HostRuntime) -> Result<(), Fail> {
         answered(
             &rt,
+            "odd bytes",
             b"op,d,a,b,n,m\nadd,\x00,1,2,,\n",
             b"line,fault\n2,18\n",
         )?;
         answered(
             &rt,
+            "odd bytes",
             b"op,d,a,b,n,m\nadd,3\x00,1,2,,\n",
             b"line,fault\n2,18\n",
         )?;
         answered(
             &rt,
+            "odd bytes",
             b"op,d,a,b,n,m\nadd\x00,3,1,2,,\n",
             b"line,fault\n2,18\n",
         )?;
         answered(
             &rt,
+            "odd bytes",
             b"op,d,a,b,n,m\nadd,3,1,2,,\xb2\n",
             b"line,fault\n2,18\n",
         )?;
-        answered(&rt, b"op,d,a,b,n,m\n\xff,3,1,2,,\n", b"line,fault\n2,18\n")?;
-        answered(&rt, b"\xef\xbb\xbfop,d,a,b,n,m\n", b"line,fault\n1,16\n")
+        answered(
+            &rt,
+            "odd bytes",
+            b"op,d,a,b,n,m\n\xff,3,1,2,,\n",
+            b"line,fault\n2,18\n",
+        )?;
+        answered(
+            &rt,
+            "odd bytes",
+            b"\xef\xbb\xbfop,d,a,b,n,m\n",
+            b"line,fault\n1,16\n",
+        )
     }
 
     // Fields that are numbers and yet refused: first any that is not used, then registers, then the constant.
@@ -533,12 +552,22 @@ mod tests {
             input.push_str("add,3,1,2,,\n")?;
             text.push_str(format!(in rt.alloc(); "{},002081b3\n", 4 * u32::from(i))?.as_str())?;
         }
-        answered(&rt, input.as_bytes(), text.as_bytes())?;
+        answered(&rt, "a full store", input.as_bytes(), text.as_bytes())?;
         let mut more = input.clone()?;
         more.push_str("add,3,1,2,,\n")?;
-        answered(&rt, more.as_bytes(), b"line,fault\n130,5\n")?;
+        answered(
+            &rt,
+            "one word more",
+            more.as_bytes(),
+            b"line,fault\n130,5\n",
+        )?;
         input.push_str("add,32,1,2,,\n")?;
-        answered(&rt, input.as_bytes(), b"line,fault\n130,1\n")
+        answered(
+            &rt,
+            "a fault on the line past a full store",
+            input.as_bytes(),
+            b"line,fault\n130,1\n",
+        )
     }
 
     // An input of 4096 bytes is answered.
@@ -550,7 +579,12 @@ mod tests {
         }
         input.push_str("\n")?;
         assert_eq!(rt; input.len(), 4096);
-        answered(&rt, input.as_bytes(), b"line,fault\n2,17\n")
+        answered(
+            &rt,
+            "an input of 4096 bytes",
+            input.as_bytes(),
+            b"line,fault\n2,17\n",
+        )
     }
 
     // A longer input and a shorter output are refused, and the output stays.
@@ -586,7 +620,7 @@ mod tests {
         let mut bytes = [0xaau8; 5000];
         let output: &mut [u8] = &mut bytes;
         let n = sheet(b"op,d,a,b,n,m\nadd,3,1,2,,\n", output)?;
-        assert_eq!(rt; &output[0..n], b"at,word\n0,002081b3\n");
+        assert_eq!(rt; &output[0..n], b"at,word\n0,002081b3\n".as_slice());
         for b in &output[n..] {
             assert_eq!(rt; *b, 0xaa);
         }
