@@ -1,8 +1,8 @@
 -- One word, one set of fields, and back: for every layout. Assumes nothing.
-use Rattle.std.proofs.Common.{◌≡◌, ℕ, zero, suc, ◌+◌, ◌-◌, ◌*◌, ◌/◌, ◌%◌, ◌^◌, ◌<◌, ◌≤◌, Bool, true, false, cond, ◌&&◌, ◌||◌, eqb, leb, List, [], ◌∷◌, length, sym, refl, ap, ◌∙◌, subst, ap₂, subst₂, lt_of_lt_of_le, add_assoc, mod-lt, mod-eq_of_lt, mul_assoc, mul_comm, add_comm, div-add-mod', div-one, arith, pow_pos, pow_mono, pow-add, shl_lt, shr_lt}
+use Rattle.std.proofs.Common.{◌≡◌, ℕ, zero, suc, ◌+◌, ◌-◌, ◌*◌, ◌/◌, ◌%◌, ◌^◌, ◌<◌, ◌≤◌, Bool, true, false, cond, ◌&&◌, ◌||◌, eqb, leb, List, [], ◌∷◌, length, sym, refl, ap, ◌∙◌, subst, ap₂, subst₂, lt_of_lt_of_le, mod-lt, mod-eq_of_lt, mul_assoc, div-add-mod', arith, pow_pos, pow_mono, pow-add, shl_lt, shr_lt}
 use native.Mathlib.Nat.{mod-one, zero-mod, zero-div, mul-mod_left, div-eq_of_lt}
 use lib.Arith.{digits_div, digits_mod, digits_lt}
-use lib.Bits.{bit_and, bit_or, and_block, and_mask, and_lt, and_zero_r, or_shr, or_mod, or_zero_l, or_zero_r, or_lt}
+use lib.Bits.{bit_and, bit_or, and_block, and_mask, and_lt, and_zero_r, or_shr, or_mod, or_zero_r, or_lt}
 use lib.Pow.{high, low, mod-pow-add, shl-shr, ones_lt}
 use Rattle.std.proofs.lemmas.Bool.Decides.{nat_tests}
 use Rattle.bits.specs.declared.part.Field.{Field}
@@ -10,7 +10,7 @@ use Rattle.bits.specs.declared.part.Field.TheVariants.{D, A, B, N, M, Opcode, Fu
 use Rattle.bits.specs.declared.part.Values.{Values}
 use Rattle.bits.specs.declared.part.Part.{Part}
 use Rattle.bits.specs.declared.part.Part.TheVariants.{Fixed, Slice}
-use Rattle.bits.specs.Layout.{value_at, index, same, code, width, value, total, ones, taken, any, fixed, word, mask, bits, bits_in, pick, apart, from, reach, span, tidy, sound, Fit, picks, handy, handies}
+use Rattle.bits.specs.Layout.{value_at, index, same, code, width, value, total, ones, taken, any, fixed, word, mask, bits, bits_in, pick, apart, from, reach, span, tidy, sound, Fit, picks}
 
 pub value-lt : (p : Part) (v : Values) → value p v < 2 ^ width p
 value-lt (Fixed w c) v = mod-lt c (pow_pos w)

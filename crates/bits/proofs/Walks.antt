@@ -1,12 +1,12 @@
 -- What a walk along a layout comes to. Assumes nothing.
-use Rattle.std.proofs.Common.{◌≡◌, ℕ, zero, suc, ◌+◌, ◌-◌, ◌*◌, ◌/◌, ◌%◌, ◌^◌, ◌<◌, ◌≤◌, Bool, true, false, cond, ◌&&◌, eqb, ltb, leb, List, [], ◌∷◌, length, get_or, drop, sym, refl, ap, ◌∙◌, subst, ap₂, lt_of_lt_of_le, le_of_suc-le-suc, not-suc-le-zero, mod-lt, add_comm, div-one, arith, drop-cons, pow_pos, pow_mono, shl_exact}
+use Rattle.std.proofs.Common.{◌≡◌, ℕ, zero, suc, ◌+◌, ◌-◌, ◌*◌, ◌/◌, ◌%◌, ◌^◌, ◌<◌, ◌≤◌, true, cond, ◌&&◌, eqb, leb, List, [], ◌∷◌, length, get_or, drop, sym, ap, ◌∙◌, lt_of_lt_of_le, le_of_suc-le-suc, not-suc-le-zero, mod-lt, div-one, arith, drop-cons, pow_pos, pow_mono, shl_exact}
 use lib.Bits.{bit_or}
 use Rattle.std.proofs.lemmas.Bool.Decides.{nat_tests}
 use Rattle.bits.specs.declared.part.Field.{Field}
 use Rattle.bits.specs.declared.part.Values.{Values}
 use Rattle.bits.specs.declared.part.Part.{Part}
 use Rattle.bits.specs.declared.part.Part.TheVariants.{Fixed, Slice}
-use Rattle.bits.specs.Layout.{value_at, index, width, value, total, word, bits_in, pick, handy, Handy, handies, Handies}
+use Rattle.bits.specs.Layout.{index, width, value, total, word, bits_in, pick, handy, Handy, handies, Handies}
 use Rattle.bits.proofs.Layouts.{andb, word_lt}
 
 pub handy-width : (p : Part) → Handy p → width p < 32

@@ -1,6 +1,6 @@
 -- A layout: the parts of a word, from the lowest bit up. From a layout follow the word of given fields, the bits that the
 -- operation fixes, and the fields of a given word.
-use Rattle.std.specs.Prelude.{◌≡◌, ℕ, zero, suc, ◌+◌, ◌-◌, ◌*◌, ◌/◌, ◌%◌, ◌^◌, ◌<◌, Bool, true, false, cond, ◌&&◌, ◌||◌, List, [], ◌∷◌, length, ◌==◌, bit_or, nat_le, nat_lt}
+use Rattle.std.specs.Prelude.{◌≡◌, ℕ, zero, suc, ◌+◌, ◌-◌, ◌*◌, ◌/◌, ◌%◌, ◌^◌, ◌<◌, Bool, true, cond, ◌&&◌, ◌||◌, List, [], ◌∷◌, length, ◌==◌, bit_or, nat_le, nat_lt}
 use Rattle.bits.specs.declared.part.Field.{Field}
 use Rattle.bits.specs.declared.part.Field.TheVariants.{D, A, B, N, M, Opcode, Funct3, Funct}
 use Rattle.bits.specs.declared.part.Part.{Part}

@@ -1,7 +1,6 @@
 -- Codes that fit their places, and fields that have no place.
 use Rattle.std.proofs.Common.{◌≡◌, ℕ, ◌^◌, ◌<◌, Bool, true, false, cond, ltb, List, [], ◌∷◌, Some, None, Ok, Err, Option, Result, sym, refl, ap, subst, arith}
 use Rattle.std.proofs.lemmas.Bool.Decides.{nat_tests}
-use Rattle.formats.specs.declared.faults.WideCode.{WideCode}
 use Rattle.formats.specs.Lawful.{Check, check, first_wide, Narrow, outcome}
 
 -- lawful operands have narrow codes

@@ -1,6 +1,5 @@
 -- Every format's layout is sound, and fields that fit it one by one fit it.
 use Rattle.std.proofs.Common.{◌≡◌, ◌^◌, ◌<◌, true, List, refl}
-use Rattle.bits.specs.declared.part.Field.{Field}
 use Rattle.bits.specs.declared.part.Field.TheVariants.{D, A, B, N, M, Opcode, Funct3, Funct}
 use Rattle.bits.specs.declared.part.Part.{Part}
 use Rattle.bits.specs.declared.part.Values.{Values}

@@ -1,9 +1,9 @@
 -- What holds of each operation by computing, and what follows of an instruction's fields in its word.
-use Rattle.std.proofs.Common.{◌≡◌, ℕ, ◌+◌, ◌-◌, ◌^◌, ◌<◌, ◌≤◌, Bool, true, false, cond, ◌&&◌, eqb, ltb, leb, List, [], ◌∷◌, length, get_or, ℤ, pos, negsuc, sym, refl, ap, ◌∙◌, subst, lt_of_lt_of_le, arith, pow_pos, pow_mono}
+use Rattle.std.proofs.Common.{◌≡◌, ℕ, ◌+◌, ◌-◌, ◌^◌, ◌<◌, ◌≤◌, Bool, true, eqb, ltb, leb, List, [], ◌∷◌, ℤ, pos, negsuc, sym, refl, subst, lt_of_lt_of_le, arith, pow_pos, pow_mono}
 use Rattle.std.proofs.lemmas.Bool.Decides.{nat_tests}
 use Rattle.bits.specs.declared.part.Field.TheVariants.{D, A, B, N, M, Opcode, Funct3, Funct}
-use Rattle.bits.specs.Layout.{total, span, Fit}
-use Rattle.formats.specs.Layouts.{layout, size}
+use Rattle.bits.specs.Layout.{span, Fit}
+use Rattle.formats.specs.Layouts.{layout}
 use Rattle.formats.proofs.Sound.{fit_of}
 use Rattle.operations.specs.declared.row.Use.{Use}
 use Rattle.operations.specs.declared.row.Use.TheVariants.{Absent, Full, Short}
@@ -15,7 +15,7 @@ use Rattle.operations.specs.declared.row.Form.{Form}
 use Rattle.operations.specs.Manual.{Entry, operations, form_at, no_entry, count}
 use Rattle.operations.proofs.Rows.{operations-length}
 use Rattle.instructions.specs.declared.fields.Fields.{Fields}
-use Rattle.instructions.specs.Faults.{reg_ok, mask_ok, lawful, Workable, SomeBits}
+use Rattle.instructions.specs.Faults.{reg_ok, lawful, Workable, SomeBits}
 use Rattle.instructions.specs.Words.{raw_reg, raw_number, raw_mask, raw}
 use Rattle.instructions.proofs.Checks.{all, test, every, every_at, range_at}
 use Rattle.instructions.proofs.Constants.{number_width, Halved, number_lt}

@@ -1,5 +1,5 @@
 -- The low two bits of a word are its operation's, and tell its size.
-use Rattle.std.proofs.Common.{◌≡◌, ℕ, ◌+◌, ◌*◌, ◌/◌, ◌%◌, ◌^◌, ◌<◌, Bool, true, false, cond, ◌&&◌, eqb, List, [], ◌∷◌, get_or, sym, refl, ap, ◌∙◌, subst, ap₂, mod-lt, mod-eq_of_lt, arith, pow_pos}
+use Rattle.std.proofs.Common.{◌≡◌, ℕ, ◌+◌, ◌*◌, ◌/◌, ◌%◌, ◌^◌, ◌<◌, Bool, true, false, cond, eqb, List, [], ◌∷◌, get_or, sym, refl, ap, ◌∙◌, subst, ap₂, mod-lt, mod-eq_of_lt, arith, pow_pos}
 use lib.Bits.{bit_and, and_mod, and_mask}
 use Rattle.std.proofs.lemmas.Bool.Decides.{nat_tests}
 use Rattle.bits.specs.declared.part.Field.{Field}
@@ -15,7 +15,7 @@ use Rattle.operations.specs.Manual.{Entry, operations, form_at, no_entry, count}
 use Rattle.operations.proofs.Rows.{operations-length}
 use Rattle.instructions.specs.declared.fields.Fields.{Fields}
 use Rattle.instructions.specs.declared.instruction.Instruction.{Instruction}
-use Rattle.instructions.specs.Words.{raw, word_of, the_word, halves, halfwords_in}
+use Rattle.instructions.specs.Words.{raw, the_word, halves, halfwords_in}
 use Rattle.instructions.specs.Laws.{LowBitsTell}
 use Rattle.instructions.proofs.Checks.{all, test, every, every_at}
 

@@ -1,9 +1,8 @@
 -- An upper and a lower immediate are known by the number that they make.
-use Rattle.std.proofs.Common.{◌≡◌, ℕ, ℤ, pos, negsuc, ◌≤ℤ◌, sym, refl, ap, ◌∙◌, ap₂, arith}
+use Rattle.std.proofs.Common.{◌≡◌, ℤ, arith}
 use denote.Struct.Record.{values_one}
-use Rattle.std.proofs.lemmas.Bool.Decides.{nat_tests}
 use Rattle.std.proofs.lemmas.Int.{ints}
-use Rattle.operands.specs.Ranges.{Within12, Within20, made}
+use Rattle.operands.specs.Ranges.{Within12, made}
 use Rattle.operands.specs.declared.imms.Imm12.{Imm12}
 use Rattle.operands.specs.declared.imms.Imm20.{Imm20}
 use Rattle.operands.specs.contracts.imms.Imm12 as Imm12-is

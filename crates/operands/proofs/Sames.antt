@@ -1,8 +1,8 @@
 -- Registers, immediates and distances are known by their bits, and every bits of the width are some one's.
-use Rattle.std.proofs.Common.{◌≡◌, ℕ, zero, suc, ◌+◌, ◌-◌, ◌*◌, ◌/◌, ◌%◌, ◌^◌, ◌<◌, ℤ, pos, negsuc, sym, refl, ap, ◌∙◌, arith, lit<}
+use Rattle.std.proofs.Common.{◌≡◌, ℕ, zero, suc, ◌*◌, ◌^◌, ◌<◌, refl, arith, lit<}
 use denote.Struct.Record.{values_one}
 use Rattle.bits.specs.Twos.{twos, signed}
-use Rattle.bits.proofs.Twos.{twos-lt, signed-twos, twos-signed}
+use Rattle.bits.proofs.Twos.{twos-lt, twos-signed}
 use Rattle.operands.specs.Ranges.{halved}
 use Rattle.operands.specs.Masks.{mask_bit}
 use Rattle.operands.specs.declared.masking.VecOpMasking.{VecOpMasking}

@@ -1,11 +1,11 @@
 -- Ranges and bits at any width. A signed number of suc k bits lies from -2 ^ k to 2 ^ k - 1.
-use Rattle.std.proofs.Common.{◌≡◌, ℕ, zero, suc, ◌+◌, ◌-◌, ◌*◌, ◌/◌, ◌%◌, ◌^◌, ◌<◌, true, false, cond, ℤ, pos, negsuc, ◌≤ℤ◌, sym, refl, ap, ◌∙◌, arith, pow_pos}
+use Rattle.std.proofs.Common.{◌≡◌, ℕ, suc, ◌+◌, ◌-◌, ◌*◌, ◌%◌, ◌^◌, ◌<◌, ℤ, pos, negsuc, ◌≤ℤ◌, sym, ap, ◌∙◌, arith, pow_pos}
 use lib.Signed.{mag}
 use Rattle.std.proofs.lemmas.Bool.Decides.{nat_tests}
 use Rattle.std.proofs.lemmas.Int.{ints}
 use Rattle.bits.specs.Twos.{twos, signed}
 use Rattle.bits.proofs.Twos.{twos-pos, twos-neg, twos-lt, even, signed-twos, twos-signed}
-use Rattle.operands.specs.Ranges.{Even, InReach, halved}
+use Rattle.operands.specs.Ranges.{InReach, halved}
 
 -- from -2 ^ k to 2 ^ k - 1
 abbrev pub Within : ℕ → ℤ → Type 0

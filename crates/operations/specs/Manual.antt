@@ -14,7 +14,6 @@ use Rattle.operations.specs.declared.row.Number.{Number}
 use Rattle.operations.specs.declared.row.Number.TheVariants.{NoNumber, Signed, Unsigned}
 use Rattle.operations.specs.declared.row.Masking.{Masking}
 use Rattle.operations.specs.declared.row.Masking.TheVariants.{NoMask, Free, Always, Never}
-use Rattle.operations.specs.declared.row.Forbids.{Forbids}
 use Rattle.operations.specs.declared.row.Form.{Form}
 use Rattle.operations.specs.declared.row.Row.{Row}
 

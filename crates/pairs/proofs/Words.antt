@@ -1,6 +1,5 @@
 -- The two instructions of a pair and their words.
-use Rattle.std.proofs.Common.{◌≡◌, ℕ, suc, ◌+◌, ◌-◌, ◌*◌, ◌/◌, ◌%◌, ◌^◌, ◌<◌, ◌≤◌, Bool, true, false, cond, ◌&&◌, ltb, List, [], ◌∷◌, ◌++◌, length, ℤ, pos, negsuc, nat_abs, ◌≤ℤ◌, sym, refl, ap, ◌∙◌, subst, ap₂, div-add-mod', arith}
-use lib.Signed.{le_z}
+use Rattle.std.proofs.Common.{◌≡◌, ℕ, suc, ◌+◌, ◌-◌, ◌*◌, ◌/◌, ◌%◌, ◌<◌, true, false, [], ◌∷◌, ◌++◌, length, ℤ, pos, negsuc, nat_abs, sym, refl, ap, ◌∙◌, subst, ap₂, div-add-mod', arith}
 use Rattle.std.proofs.lemmas.Bool.Decides.{nat_tests}
 use Rattle.std.proofs.lemmas.Int.{ints}
 use Rattle.bits.specs.Layout.{mask, bits}
@@ -19,9 +18,9 @@ use Rattle.operations.specs.Manual.{operations, form_at, codes_only}
 use Rattle.instructions.specs.declared.fields.Fields.{Fields}
 use Rattle.instructions.specs.Faults.{lawful}
 use Rattle.instructions.specs.Words.{raw_number, word_of, halves}
-use Rattle.instructions.specs.Laws.{InUse, InRange, Lawful}
+use Rattle.instructions.specs.Laws.{InUse, InRange}
 use Rattle.instructions.proofs.Lawfuls.{lawful-exactly}
-use Rattle.pairs.specs.Pairs.{holds_number, makeable, high_of, low_of, lui_place, addi_place, lui_fields, addi_fields, pair_of, held, held_at, PairHoldsAt, PairHolds}
+use Rattle.pairs.specs.Pairs.{holds_number, high_of, low_of, lui_place, addi_place, lui_fields, addi_fields, pair_of, held, held_at, PairHolds}
 use Rattle.pairs.proofs.Parts.{signed_is, pair-makes}
 
 pub lui_is : lui_place ≡ 28

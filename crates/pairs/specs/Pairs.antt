@@ -1,5 +1,5 @@
 -- The pair of instructions lui d, high and addi d, d, low that puts a number into a register.
-use Rattle.std.specs.Prelude.{◌≡◌, ℕ, ◌+◌, ◌*◌, ◌/◌, ◌%◌, ◌^◌, Bool, true, ◌&&◌, List, [], ◌∷◌, ◌++◌, length, ℤ, pos, negsuc, ◌-ℤ◌, Some, None, codes, Option, int_le, slice_index}
+use Rattle.std.specs.Prelude.{◌≡◌, ℕ, ◌+◌, ◌*◌, ◌/◌, ◌%◌, ◌^◌, Bool, true, ◌&&◌, List, ◌++◌, length, ℤ, pos, negsuc, ◌-ℤ◌, Some, None, codes, Option, int_le, slice_index}
 use Rattle.bits.specs.Twos.{twos, signed}
 use Rattle.operands.specs.Ranges.{Within12, Within20, made}
 use Rattle.operations.specs.Manual.{operations, form_at, count}

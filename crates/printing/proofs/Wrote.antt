@@ -1,5 +1,5 @@
 -- Texts written into a buffer one after another.
-use Rattle.std.proofs.Common.{◌≡◌, ℕ, ◌+◌, ◌≤◌, List, [], ◌++◌, length, sym, refl, ap, ◌∙◌, arith, length-append}
+use Rattle.std.proofs.Common.{◌≡◌, ℕ, ◌+◌, ◌≤◌, List, [], ◌++◌, length, sym, ap, ◌∙◌, arith, length-append}
 use Rattle.text.specs.Written.{overwritten}
 use Rattle.text.proofs.Overwritten.{overwritten-none, overwritten_twice}
 

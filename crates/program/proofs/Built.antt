@@ -1,5 +1,5 @@
 -- What an answer of build says of the fields.
-use Rattle.std.proofs.Common.{◌≡◌, ℕ, Some, None, Ok, Err, Option, Result, sym, refl, ap, ◌∙◌, arith}
+use Rattle.std.proofs.Common.{◌≡◌, ℕ, Some, None, Ok, Err, Option, Result, refl, ap, arith}
 use Rattle.formats.specs.Lawful.{outcome}
 use Rattle.operations.specs.declared.operation.Operation.{Operation}
 use Rattle.instructions.specs.declared.fields.Fields.{Fields}

@@ -1,5 +1,5 @@
 -- No two operations have a word in common: one test over all pairs, carried to each.
-use Rattle.std.proofs.Common.{◌≡◌, ℕ, zero, suc, ◌+◌, ◌*◌, ◌/◌, ◌%◌, ◌^◌, ◌<◌, Bool, true, false, cond, not, ◌&&◌, ◌||◌, eqb, ltb, List, [], ◌∷◌, length, get_or, ℤ, pos, negsuc, nat_abs, sym, refl, ap, ◌∙◌, subst, ap₂, suc-le-suc, le_of_suc-le-suc, not-suc-le-zero, mod-lt, zero-lt-suc, div-add-mod', arith}
+use Rattle.std.proofs.Common.{◌≡◌, ℕ, zero, suc, ◌+◌, ◌*◌, ◌/◌, ◌%◌, ◌^◌, ◌<◌, Bool, true, false, cond, not, ◌&&◌, ◌||◌, eqb, ltb, List, [], ◌∷◌, length, get_or, ℤ, nat_abs, sym, refl, ap, ◌∙◌, subst, ap₂, suc-le-suc, le_of_suc-le-suc, not-suc-le-zero, mod-lt, zero-lt-suc, div-add-mod', arith}
 use lib.Arith.{bin_ind}
 use lib.Bits.{bit_and, and_shr, and_mod, and_comm}
 use Rattle.std.proofs.lemmas.Bool.Decides.{nat_tests}
@@ -8,10 +8,9 @@ use Rattle.bits.specs.declared.part.Field.TheVariants.{D, A, B, N, M, Opcode, Fu
 use Rattle.bits.specs.declared.part.Part.{Part}
 use Rattle.bits.specs.declared.part.Part.TheVariants.{Fixed, Slice}
 use Rattle.bits.specs.declared.part.Values.{Values}
-use Rattle.bits.specs.Layout.{value_at, index, same, fixed, ones, taken, mask, bits, span, word, Fit}
+use Rattle.bits.specs.Layout.{value_at, same, fixed, ones, taken, mask, bits, span}
 use Rattle.bits.proofs.Layouts.{andb, under, one}
 use Rattle.formats.specs.Layouts.{layout}
-use Rattle.operations.specs.declared.row.Except.{Except}
 use Rattle.operations.specs.declared.row.Except.TheVariants.{Nothing, Zero, ZeroAndTwo}
 use Rattle.operations.specs.declared.row.Use.{Use}
 use Rattle.operations.specs.declared.row.Use.TheVariants.{Absent, Full, Short}
@@ -22,7 +21,7 @@ use Rattle.instructions.specs.declared.fields.Fields.{Fields}
 use Rattle.instructions.specs.Faults.{reg_ok, lawful}
 use Rattle.instructions.specs.Faults as rules
 use Rattle.instructions.specs.Words.{raw_reg, raw, word_of}
-use Rattle.instructions.proofs.Checks.{every, every_at, range_at, rule_at}
+use Rattle.instructions.proofs.Checks.{every, every_at, rule_at}
 use Rattle.instructions.proofs.Forms.{Agrees, form_agrees, raw-fits}
 use Rattle.instructions.proofs.Sizes.{codes, raw-bits}
 

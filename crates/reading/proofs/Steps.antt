@@ -1,5 +1,5 @@
 -- What the reader's steps come to.
-use Rattle.std.proofs.Common.{◌≡◌, ℕ, ◌^◌, ◌<◌, ◌≤◌, Bool, true, false, Some, None, Option, sym, refl, ap, ◌∙◌, subst, lt_of_lt_of_le, arith, pow_mono}
+use Rattle.std.proofs.Common.{◌≡◌, ℕ, ◌^◌, ◌<◌, ◌≤◌, true, Some, None, Option, sym, refl, ap, ◌∙◌, subst, lt_of_lt_of_le, arith, pow_mono}
 use lib.Bits.{bit_and}
 use Rattle.bits.specs.declared.part.Field.TheVariants.{D, A, B, N, M}
 use Rattle.bits.specs.declared.part.Values.{Values}

@@ -1,17 +1,16 @@
 -- A word tells its instruction, and halfwords tell a list of them.
-use Rattle.std.proofs.Common.{◌≡◌, ℕ, ◌+◌, ◌*◌, ◌/◌, ◌%◌, ◌<◌, Bool, true, false, cond, eqb, List, [], ◌∷◌, ◌++◌, sym, refl, ap, ◌∙◌, subst, ap₂, div-add-mod', arith}
+use Rattle.std.proofs.Common.{◌≡◌, ℕ, ◌/◌, ◌%◌, Bool, true, false, cond, eqb, List, [], ◌∷◌, ◌++◌, sym, refl, ap, ◌∙◌, subst, ap₂, arith}
 use mathlib.Core.Bool.{Bool-set}
 use mathlib.Core.HLevel.{is_prop→PathP}
 use denote.Struct.Record.{values_one}
 use Rattle.std.proofs.lemmas.Bool.Decides.{nat_tests}
-use Rattle.bits.specs.Layout.{word}
 use Rattle.bits.proofs.Layouts.{picks-only}
-use Rattle.formats.specs.Layouts.{layout, size}
+use Rattle.formats.specs.Layouts.{layout}
 use Rattle.formats.proofs.Sound.{layout-sound}
 use Rattle.operations.specs.declared.row.Form.{Form}
 use Rattle.operations.specs.declared.operation.Operation.{Operation}
 use Rattle.operations.specs.contracts.operation.Operation as O
-use Rattle.operations.specs.Manual.{form_at, count}
+use Rattle.operations.specs.Manual.{form_at}
 use Rattle.instructions.specs.declared.fields.Fields.{Fields}
 use Rattle.instructions.specs.declared.instruction.Instruction.{Instruction}
 use Rattle.instructions.specs.Faults.{lawful}

@@ -1,5 +1,5 @@
 -- The operands in the fields of a line.
-use Rattle.std.specs.Prelude.{ℕ, ◌-◌, ◌^◌, cond, ◌&&◌, List, ℤ, pos, negsuc, Some, None, Option, ◌==◌, nat_le, nat_lt}
+use Rattle.std.specs.Prelude.{ℕ, ◌-◌, ◌^◌, cond, List, ℤ, pos, negsuc, Some, None, Option, ◌==◌, nat_le, nat_lt}
 use Rattle.std.specs.Option.{option_map}
 use Rattle.text.specs.Fields.{field_of, text_of}
 use Rattle.text.specs.Numbers.{value_of}

@@ -1,5 +1,5 @@
 -- What the encoders answer to the operands of a line, each in the order of its arguments.
-use Rattle.std.specs.Prelude.{ℕ, List, [], ◌∷◌, ℤ, Some, None, Ok, Err, Option, Result}
+use Rattle.std.specs.Prelude.{ℕ, List, [], ◌∷◌, Some, Ok, Err, Option, Result}
 use Rattle.bits.specs.Layout.{word}
 use Rattle.bits.specs.Twos.{twos}
 use Rattle.operands.specs.Masks.{mask_bit}

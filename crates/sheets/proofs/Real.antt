@@ -1,5 +1,5 @@
 -- Whatever a sheet lists are operations of the table.
-use Rattle.std.proofs.Common.{◌≡◌, ℕ, suc, ◌+◌, ◌<◌, Bool, true, false, cond, eqb, List, [], ◌∷◌, ◌++◌, length, ℤ, Some, None, Ok, Err, Option, Result, sym, refl, ap, ◌∙◌, subst, arith}
+use Rattle.std.proofs.Common.{◌≡◌, ℕ, suc, ◌+◌, ◌<◌, Bool, true, false, cond, eqb, List, [], ◌∷◌, ◌++◌, length, Some, None, Ok, Err, Option, Result, refl, ap, subst, arith}
 use Rattle.std.specs.Str.{bytes_eq}
 use Rattle.bits.specs.declared.part.Field.TheVariants.{D, A, B, N, M}
 use Rattle.text.specs.Fields.{fields, field_of, text_of}
@@ -12,7 +12,7 @@ use Rattle.program.specs.declared.faults.EmitFault.{EmitFault}
 use Rattle.program.specs.Calls.{built_emitted}
 use Rattle.lines.specs.declared.columns.Columns.{Columns}
 use Rattle.lines.specs.declared.faults.LineFault.{LineFault}
-use Rattle.lines.specs.declared.faults.LineFault.TheVariants.{Names, FieldCount, NoNewline, UnknownOperation, NoNumber, Emit}
+use Rattle.lines.specs.declared.faults.LineFault.TheVariants.{FieldCount, UnknownOperation, NoNumber}
 use Rattle.lines.specs.declared.faults.SheetFault.{SheetFault}
 use Rattle.lines.specs.Names.{found, named_columns}
 use Rattle.lines.specs.Lines.{operation_at, number_at, there, lined}

@@ -1,13 +1,12 @@
 -- The words that stand in a store print as the listing's.
-use Rattle.std.proofs.Common.{◌≡◌, ℕ, ◌+◌, ◌*◌, ◌/◌, ◌%◌, ◌<◌, Bool, true, false, cond, eqb, List, [], ◌∷◌, ◌++◌, take, Ok, codes, sym, refl, ap, ◌∙◌, subst, ap₂, div-add-mod', arith}
+use Rattle.std.proofs.Common.{◌≡◌, ℕ, ◌+◌, ◌*◌, ◌/◌, ◌%◌, Bool, true, false, cond, eqb, List, [], ◌∷◌, ◌++◌, take, Ok, codes, sym, refl, ap, ◌∙◌, subst, div-add-mod', arith}
 use Rattle.std.proofs.lemmas.Bool.Decides.{nat_tests}
 use Rattle.text.specs.Lines.{lines}
 use Rattle.printing.specs.Printed.{newline, printed, word_row, words_text}
 use Rattle.printing.proofs.Printed.{printed_one, printed_two}
 use Rattle.formats.specs.Layouts.{size}
-use Rattle.operations.specs.Manual.{form_at, count}
-use Rattle.instructions.specs.declared.fields.Fields.{Fields}
-use Rattle.instructions.specs.Words.{halves, halfwords_of, word_of}
+use Rattle.operations.specs.Manual.{form_at}
+use Rattle.instructions.specs.Words.{halves, word_of}
 use Rattle.instructions.proofs.Sizes.{low-bits_tell}
 use Rattle.sheets.specs.Listing.{Listing, halfs, listed}
 use Rattle.sheets.specs.Sheet.{rows, text_of, answer}

@@ -1,5 +1,5 @@
 -- The fields that stand in the word of each format's operands, and when operands are lawful.
-use Rattle.std.specs.Prelude.{ℕ, List, [], ◌∷◌, Option}
+use Rattle.std.specs.Prelude.{List, [], ◌∷◌, Option}
 use Rattle.bits.specs.declared.part.Values.{Values}
 use Rattle.bits.specs.Twos.{twos}
 use Rattle.formats.specs.declared.faults.WideCode.{WideCode}

@@ -1,11 +1,11 @@
 -- A sheet's lines and a line's fields write it, and nothing else does.
-use Rattle.std.proofs.Common.{◌≡◌, ℕ, suc, ◌+◌, ◌<◌, ◌≤◌, Bool, true, false, cond, eqb, List, [], ◌∷◌, ◌++◌, length, sym, refl, ap, ◌∙◌, arith}
+use Rattle.std.proofs.Common.{◌≡◌, ℕ, ◌<◌, Bool, true, false, cond, eqb, List, [], ◌∷◌, ◌++◌, length, sym, refl, ap, ◌∙◌, arith}
 use Rattle.std.specs.List.{AllByRecursion as All}
 use Rattle.std.proofs.lemmas.List.{append-nil}
 use Rattle.std.proofs.lemmas.Bool.{eqb-true, eqb-false, ne_eqb, cond-false}
 use Rattle.text.specs.Bytes.{Without}
 use Rattle.text.specs.Lines.{Line, ended, unended, with_byte, lines, sheet, Tidy, LinesExact}
-use Rattle.text.specs.Fields.{fields, with_front, line_of, behind_commas, Apart, FieldsExact}
+use Rattle.text.specs.Fields.{fields, with_front, line_of, FieldsExact}
 use Rattle.text.proofs.Commas.{some_field}
 
 -- lines

@@ -1,4 +1,4 @@
-use Rattle.std.proofs.Common.{◌≡◌, sym, refl, ap, ◌∙◌, subst}
+use Rattle.std.proofs.Common.{sym, ap, ◌∙◌, subst}
 use Rattle.bits.specs.Layout.{bits_in, Handy}
 use Rattle.bits.proofs.Walks.{in_slice}
 use Rattle.bits.proofs.walk.bits_in.Goals as goal

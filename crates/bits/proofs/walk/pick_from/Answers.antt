@@ -1,4 +1,4 @@
-use Rattle.std.proofs.Common.{◌≡◌, ℕ, suc, ◌+◌, ◌/◌, ◌^◌, ◌<◌, length, get_or, drop, sym, refl, ap, ◌∙◌, subst, ap₂, add-one, arith}
+use Rattle.std.proofs.Common.{◌+◌, ◌/◌, ◌^◌, ◌<◌, get_or, drop, sym, ap, ◌∙◌, subst, ap₂, add-one}
 use lib.Bits.{bit_or}
 use Rattle.std.proofs.lemmas.List.{drop_all}
 use Rattle.bits.specs.declared.part.Part.TheVariants.{Fixed}

@@ -1,4 +1,4 @@
-use Rattle.std.proofs.Common.{◌≡◌, sym, refl, ap, ◌∙◌, subst}
+use Rattle.std.proofs.Common.{sym, refl, ap, ◌∙◌, subst}
 use Rattle.bits.specs.Layout.{word, Fit}
 use Rattle.formats.specs.Layouts.{layout}
 use Rattle.formats.proofs.Reading.{none-some}

@@ -1,4 +1,4 @@
-use Rattle.std.proofs.Common.{◌≡◌, ap, ◌∙◌, subst, w64}
+use Rattle.std.proofs.Common.{ap, ◌∙◌, subst, w64}
 use Rattle.std.proofs.lemmas.Int.{to_z-of_z}
 use Rattle.bits.specs.Layout.{word}
 use Rattle.operands.specs.Ranges.{InReach}

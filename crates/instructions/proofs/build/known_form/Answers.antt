@@ -1,4 +1,4 @@
-use Rattle.std.proofs.Common.{◌≡◌, sym, subst}
+use Rattle.std.proofs.Common.{sym, subst}
 use Rattle.operations.specs.declared.row.Form.{Form}
 use Rattle.instructions.specs.Faults.{Workable}
 use Rattle.instructions.proofs.Forms.{form_agrees}

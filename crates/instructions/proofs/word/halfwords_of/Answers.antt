@@ -1,6 +1,3 @@
-use Rattle.std.proofs.Common.{◌≡◌, ℕ, ◌%◌, ◌<◌, sym, ap, ◌∙◌, subst, w16, Fits}
-use Rattle.instructions.specs.declared.instruction.Instruction.{Instruction}
-use Rattle.instructions.specs.Words.{the_word}
 use Rattle.instructions.proofs.Sizes.{one_half, two_halves, one_small}
 use Rattle.instructions.proofs.word.halfwords_of.Goals as goal
 

@@ -1,4 +1,4 @@
-use Rattle.std.proofs.Common.{◌≡◌, ◌^◌, ◌<◌, true, sym, refl, ap, ◌∙◌, subst, subst₂}
+use Rattle.std.proofs.Common.{◌≡◌, true, sym, ap, ◌∙◌, subst, subst₂}
 use Rattle.bits.specs.Layout.{Fit}
 use Rattle.formats.specs.Layouts.{layout}
 use Rattle.operations.specs.declared.row.Form.{Form}
@@ -7,7 +7,6 @@ use Rattle.operations.specs.Manual.{form_at}
 use Rattle.instructions.specs.declared.fields.Fields.{Fields}
 use Rattle.instructions.specs.declared.instruction.Instruction.{Instruction}
 use Rattle.instructions.specs.Faults.{lawful}
-use Rattle.instructions.specs.Words.{raw}
 use Rattle.instructions.proofs.Forms.{Agrees, form_agrees, number_32, raw-fits}
 use Rattle.instructions.proofs.word.word_of.Goals as goal
 

@@ -1,4 +1,4 @@
-use Rattle.std.proofs.Common.{◌≡◌, Some, sym, ap, ◌∙◌, w64}
+use Rattle.std.proofs.Common.{Some, sym, ap, ◌∙◌, w64}
 use Rattle.std.proofs.lemmas.Int.{to_z-of_z}
 use Rattle.operands.proofs.Pairs.{one_pair}
 use Rattle.operands.proofs.generate.generate_imm.Goals as goal

@@ -1,7 +1,7 @@
-use Rattle.std.proofs.Common.{◌≡◌, ℕ, ◌<◌, ◌≤◌, Bool, true, false, length, get_or, drop, sym, refl, ap, ◌∙◌, subst, arith}
+use Rattle.std.proofs.Common.{◌≡◌, ℕ, ◌<◌, ◌≤◌, Bool, true, false, length, sym, ap, ◌∙◌, subst, arith}
 use Rattle.std.proofs.lemmas.List.{drop_all}
 use Rattle.std.proofs.lemmas.Slice.Eq.{slice_eq-Decides}
-use Rattle.operations.specs.Manual.{Entry, operations, count, no_entry}
+use Rattle.operations.specs.Manual.{Entry, operations}
 use Rattle.operations.specs.Names.{named, further}
 use Rattle.operations.proofs.Rows.{rows-length, operations-length, row_at}
 use Rattle.operations.proofs.Named.{named_here, named_past}

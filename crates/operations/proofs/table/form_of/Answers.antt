@@ -1,4 +1,4 @@
-use Rattle.std.proofs.Common.{◌≡◌, ap, arith}
+use Rattle.std.proofs.Common.{ap, arith}
 use Rattle.operations.specs.Manual.{Entry}
 use Rattle.operations.proofs.Rows.{rows-length, row_at}
 use Rattle.operations.proofs.table.form_of.Goals as goal

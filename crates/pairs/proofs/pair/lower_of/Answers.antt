@@ -1,9 +1,7 @@
-use Rattle.std.proofs.Common.{◌≡◌, ℕ, true, sym, ap, ◌∙◌, subst, ap₂}
+use Rattle.std.proofs.Common.{ap, ◌∙◌, ap₂}
 use Rattle.formats.specs.Layouts.{size}
 use Rattle.operations.specs.declared.operation.Operation.{Operation}
 use Rattle.operations.specs.Manual.{form_at}
-use Rattle.instructions.specs.declared.fields.Fields.{Fields}
-use Rattle.instructions.specs.Faults.{lawful}
 use Rattle.instructions.specs.Words.{halfwords_of}
 use Rattle.pairs.proofs.Words.{addi_lawful, addi_size, spelled-lawful}
 use Rattle.pairs.proofs.pair.lower_of.Goals as goal

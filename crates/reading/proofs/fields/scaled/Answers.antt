@@ -1,5 +1,5 @@
-use Rattle.std.proofs.Common.{ℕ, ◌*◌, ◌^◌, ◌<◌, ◌≤◌, mul-le-mul_left, arith, w64, rules}
-use Rattle.std.proofs.lemmas.Int.{ints, to_z_pos}
+use Rattle.std.proofs.Common.{ℕ, ◌*◌, ◌^◌, ◌<◌, ◌≤◌, mul-le-mul_left, arith, w64}
+use Rattle.std.proofs.lemmas.Int.{to_z_pos}
 use Rattle.reading.proofs.fields.scaled.Goals as goal
 
 below : (x u : ℕ) → u ≤ 16 → x < 4294967296 → x * u < 2 ^ 63

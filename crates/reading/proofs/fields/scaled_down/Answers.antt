@@ -1,5 +1,5 @@
-use Rattle.std.proofs.Common.{◌≡◌, ◌*◌, pos, ◌-ℤ◌, sym, ap, ◌∙◌, subst, mul-pos, arith, w64, rules}
-use Rattle.std.proofs.lemmas.Int.{to_z-of_z, ints}
+use Rattle.std.proofs.Common.{mul-pos, arith}
+use Rattle.std.proofs.lemmas.Int.{ints}
 use Rattle.reading.proofs.fields.scaled_down.Goals as goal
 
 pub returns : goal.returns

@@ -1,5 +1,4 @@
-use Rattle.std.proofs.Common.{◌≡◌, true, sym, refl, ap, ◌∙◌, subst, ap₂}
-use Rattle.operations.specs.declared.row.Form.{Form}
+use Rattle.std.proofs.Common.{◌≡◌, true, sym, ap, ◌∙◌, subst, ap₂}
 use Rattle.operations.specs.declared.operation.Operation.{Operation}
 use Rattle.operations.specs.Manual.{form_at}
 use Rattle.instructions.specs.declared.fields.Fields.{Fields}

@@ -1,5 +1,4 @@
 use Rattle.std.proofs.Common.{◌≡◌, Some, sym, ap, ◌∙◌, subst, below_more}
-use Rattle.instructions.specs.declared.instruction.Instruction.{Instruction}
 use Rattle.instructions.specs.Words.{the_word}
 use Rattle.reading.proofs.Tell.{words_tell}
 use Rattle.reading.proofs.word.read_word.Goals as goal

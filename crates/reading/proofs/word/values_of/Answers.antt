@@ -1,4 +1,4 @@
-use Rattle.std.proofs.Common.{◌≡◌, ℕ, Bool, true, false, sym, ◌∙◌, subst, arith}
+use Rattle.std.proofs.Common.{◌≡◌, ℕ, Bool, true, false, subst, arith}
 use Rattle.reading.specs.Reading.{Coded}
 use Rattle.reading.proofs.Steps.{values_one}
 use Rattle.reading.proofs.word.values_of.Goals as goal

@@ -1,4 +1,4 @@
-use Rattle.std.proofs.Common.{◌≡◌, [], map, length, take, drop, sym, refl, ap, ◌∙◌, arith, length-take, rules, eq-eqb}
+use Rattle.std.proofs.Common.{map, take, sym, ap, ◌∙◌, arith, length-take, rules, eq-eqb}
 use Rattle.std.proofs.lemmas.Bool.{ne_eqb}
 use Rattle.std.proofs.lemmas.List.{drop_all}
 use Rattle.records.specs.Records.{place_of, label_of}

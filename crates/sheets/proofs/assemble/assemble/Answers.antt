@@ -1,9 +1,6 @@
-use Rattle.std.proofs.Common.{◌≡◌, ℕ, ◌+◌, ◌<◌, ◌≤◌, List, [], length, drop, Some, None, Ok, Err, Result, sym, refl, ap, ◌∙◌, subst, ap₂, arith}
+use Rattle.std.proofs.Common.{◌+◌, [], length, drop, Err, sym, ap, ◌∙◌, subst}
 use Rattle.std.proofs.lemmas.Result.{err_from_is_err_and}
-use Rattle.text.specs.Lines.{lines, to_newline}
-use Rattle.text.proofs.Sheet.{next_line}
-use Rattle.lines.specs.declared.columns.Columns.{Columns}
-use Rattle.lines.specs.Names.{named_columns}
+use Rattle.text.specs.Lines.{lines}
 use Rattle.sheets.specs.Listing.{listed, by_columns, listed_from, Comes}
 use Rattle.sheets.specs.Assembled.{Assembled}
 use Rattle.sheets.proofs.Taking.{came_err, came_ok, no_names, headed}

@@ -1,11 +1,11 @@
-use Rattle.std.proofs.Common.{◌≡◌, ℕ, suc, ◌+◌, ◌≤◌, List, [], length, drop, Ok, Err, sym, refl, ap, ◌∙◌, subst, ap₂, add-one, arith}
+use Rattle.std.proofs.Common.{◌≡◌, suc, ◌+◌, ◌≤◌, [], length, drop, sym, ap, ◌∙◌, ap₂, add-one, arith}
 use Rattle.store.specs.Answers.{when}
 use Rattle.store.specs.Puts.{applied, puts}
 use Rattle.text.specs.Lines.{lines}
 use Rattle.text.proofs.Sheet.{next_line, last_line, no_line}
 use Rattle.lines.specs.Lines.{lined}
 use Rattle.lines.specs.declared.faults.LineFault.TheVariants.{NoNewline}
-use Rattle.sheets.specs.Listing.{listed_from, with_line, at_line, answered_line, said, Stands}
+use Rattle.sheets.specs.Listing.{listed_from, at_line, answered_line, said}
 use Rattle.sheets.proofs.Taking.{refused, longer, stands_on, comes_err, comes_ok}
 use Rattle.sheets.proofs.assemble.take_lines.Goals as goal
 

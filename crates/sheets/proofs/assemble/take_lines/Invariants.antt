@@ -1,4 +1,4 @@
-use Rattle.std.proofs.Common.{◌≡◌, ◌+◌, ◌-◌, ◌<◌, ◌≤◌, [], length, drop}
+use Rattle.std.proofs.Common.{◌≡◌, ◌+◌, ◌-◌, ◌≤◌, [], length, drop}
 use Rattle.text.specs.Lines.{lines}
 use Rattle.sheets.specs.Listing.{Listing, listed_from, Stands}
 use Rattle.sheets.proofs.assemble.take_lines.Given as goal

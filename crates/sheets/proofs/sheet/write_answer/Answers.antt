@@ -1,9 +1,8 @@
-use Rattle.std.proofs.Common.{◌≡◌, ℕ, ◌≤◌, List, length, take, Ok, sym, refl, ap, ◌∙◌, subst, arith}
+use Rattle.std.proofs.Common.{◌≡◌, length, take, Ok, ap, ◌∙◌, subst, arith}
 use Rattle.text.specs.Lines.{lines}
 use Rattle.text.specs.Written.{overwritten}
 use Rattle.printing.specs.Printed.{words_text}
-use Rattle.sheets.specs.Listing.{Listing, listed, Stands}
-use Rattle.sheets.specs.Sheet.{answer, text_of}
+use Rattle.sheets.specs.Listing.{listed}
 use Rattle.sheets.proofs.Rows.{words-answer}
 use Rattle.sheets.proofs.sheet.write_answer.Goals as goal
 

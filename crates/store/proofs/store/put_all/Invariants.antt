@@ -1,4 +1,4 @@
-use Rattle.std.proofs.Common.{◌≡◌, length, take}
+use Rattle.std.proofs.Common.{◌≡◌, take}
 use Rattle.store.specs.Puts.{applied, puts}
 use Rattle.store.proofs.store.put_all.Given as goal
 

@@ -1,4 +1,4 @@
-use Rattle.std.proofs.Common.{sym, refl, ap, ◌∙◌, arith}
+use Rattle.std.proofs.Common.{sym, ap, ◌∙◌, arith}
 use Rattle.text.specs.Fields.{part}
 use Rattle.text.proofs.Commas.{part_number, part-word}
 use Rattle.text.proofs.Until.{the_part}

@@ -1,4 +1,4 @@
-use Rattle.std.proofs.Common.{◌^◌, sym, refl, ap, ◌∙◌, arith}
+use Rattle.std.proofs.Common.{◌^◌, ◌∙◌}
 use Rattle.text.proofs.Readings.{reads_on, reads_fit, reads_none, reads_all}
 use Rattle.text.proofs.numbers.digits_value.Goals as goal
 

@@ -1,4 +1,4 @@
-use Rattle.std.proofs.Common.{◌≡◌, ◌+◌, ◌-◌, sym, ap, ◌∙◌, arith}
+use Rattle.std.proofs.Common.{◌+◌, ◌-◌, sym, ap, ◌∙◌, arith}
 use Rattle.text.specs.Written.{overwritten}
 use Rattle.text.proofs.Overwritten.{overwritten-none, hex-none, hex_turn}
 use Rattle.text.proofs.writing.write_hex_digits.Goals as goal

@@ -1,8 +1,7 @@
-use Rattle.std.proofs.Common.{◌≡◌, sym, refl, ap, ◌∙◌, subst, ap₂}
+use Rattle.std.proofs.Common.{sym, ap, ◌∙◌, subst, ap₂}
 use Rattle.bits.specs.Layout.{word, picks, Fit}
 use Rattle.bits.proofs.Layouts.{picks_fit, picks-word}
 use Rattle.formats.specs.Layouts.{layout}
-use Rattle.formats.specs.Lawful.{Fits}
 use Rattle.formats.proofs.Sound.{layout-sound}
 use Rattle.formats.proofs.Reading.{none-some, forth, back}
 use Rattle.formats.proofs.format.Format.read.Goals as goal
