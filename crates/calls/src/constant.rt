@@ -8,7 +8,7 @@ ghost use Rattle.calls.specs.Calls.{constanted};
 
 use crate::append::append_pair;
 use crate::faults::ConstantFault;
-use items::pairs::{generate_imm, pair_halves, register_of};
+use items::pair_items::{generate_imm, pair_halves, register_of};
 use records::book::{Book, SlotRecord};
 use records::counts::Counts;
 use store::store::Store;

@@ -8,7 +8,7 @@ ghost use Rattle.changing.specs.Changing.{numbered, edit_judged, changed_from, c
 use crate::edits::Edit;
 use crate::faults::{BadEntry, ChangeFault, EntryCause};
 use crate::slots::{is_inside, is_named, slot_of};
-use items::pairs::{generate_imm, pair_halves, register_of};
+use items::pair_items::{generate_imm, pair_halves, register_of};
 use records::book::Book;
 use records::counts::Counts;
 use store::store::{Store, write};

@@ -4,7 +4,7 @@ ghost use Rattle.records.specs.Records.{slots_in};
 ghost use Rattle.changing.specs.Changing.{index, numbered, inside, same_number, named, no_edit, spot_of};
 
 use crate::edits::Edit;
-use items::pairs::register_of;
+use items::pair_items::register_of;
 use records::book::{Book, SlotRecord, whole};
 use records::counts::Counts;
 

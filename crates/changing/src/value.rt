@@ -6,7 +6,7 @@ ghost use Rattle.changing.specs.Changing.{valued};
 
 use crate::faults::ValueFault;
 use crate::slots::slot_of;
-use items::pairs::held_by;
+use items::pair_items::held_by;
 use records::book::Book;
 use records::counts::Counts;
 use store::store::Store;

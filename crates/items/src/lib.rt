@@ -1,7 +1,7 @@
 //! The items of a program's listing, and what holds of them.
 #![tactic(auto)]
 
-pub mod jumps;
+pub mod jump_items;
 pub mod laws;
-pub mod pairs;
+pub mod pair_items;
 pub mod words;

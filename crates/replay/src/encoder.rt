@@ -5,7 +5,7 @@ ghost use Rattle.replay.specs.Lines.{wide_encoder, half_encoder, encoder_of, ans
 
 use crate::answer::Answer;
 use crate::operand::word;
-use crate::{short, wide};
+use crate::{short_words, wide_words};
 use text::bytes::same;
 
 #[derive(Clone, Copy)]
@@ -117,27 +117,27 @@ impl Encoder {
         ensures { result ≡ answer_by self line.now }
     {
         match self {
-            Encoder::RType => wide::r(line),
-            Encoder::IType => wide::i(line),
-            Encoder::SType => wide::s(line),
-            Encoder::Valu => wide::valu(line, 3, 4),
-            Encoder::ValuRrrr => wide::valu(line, 4, 3),
-            Encoder::ValuRrImm => wide::valu_imm(line),
-            Encoder::ValuRrrImm => wide::valu_imm(line),
-            Encoder::VmemLoad => wide::vmem_load(line),
-            Encoder::VmemStore => wide::vmem_store(line),
-            Encoder::CrType => short::cr(line),
-            Encoder::Cr2Type => short::cr2(line),
-            Encoder::CaType => short::ca(line),
-            Encoder::CjType => short::cj(line),
-            Encoder::CiType => short::ci(line),
-            Encoder::CiSpLoad => short::ci_sp(line),
-            Encoder::CAddi16sp => short::addi16sp(line),
-            Encoder::CiwType => short::ciw(line),
-            Encoder::CbType => short::cb(line),
-            Encoder::CssType => short::css(line),
-            Encoder::CsType => short::cs(line),
-            Encoder::ClType => short::cl(line),
+            Encoder::RType => wide_words::r(line),
+            Encoder::IType => wide_words::i(line),
+            Encoder::SType => wide_words::s(line),
+            Encoder::Valu => wide_words::valu(line, 3, 4),
+            Encoder::ValuRrrr => wide_words::valu(line, 4, 3),
+            Encoder::ValuRrImm => wide_words::valu_imm(line),
+            Encoder::ValuRrrImm => wide_words::valu_imm(line),
+            Encoder::VmemLoad => wide_words::vmem_load(line),
+            Encoder::VmemStore => wide_words::vmem_store(line),
+            Encoder::CrType => short_words::cr(line),
+            Encoder::Cr2Type => short_words::cr2(line),
+            Encoder::CaType => short_words::ca(line),
+            Encoder::CjType => short_words::cj(line),
+            Encoder::CiType => short_words::ci(line),
+            Encoder::CiSpLoad => short_words::ci_sp(line),
+            Encoder::CAddi16sp => short_words::addi16sp(line),
+            Encoder::CiwType => short_words::ciw(line),
+            Encoder::CbType => short_words::cb(line),
+            Encoder::CssType => short_words::css(line),
+            Encoder::CsType => short_words::cs(line),
+            Encoder::ClType => short_words::cl(line),
         }
     }
 }

@@ -13,9 +13,9 @@ mod encoder;
 mod line;
 mod name;
 mod operand;
-mod short;
+mod short_words;
 mod tally;
-mod wide;
+mod wide_words;
 
 // Writes the lines whose word is not what the encoder answers.
 fn write_different<W: Write>(out: &mut W, text: &[u8]) -> io::Result<()> {

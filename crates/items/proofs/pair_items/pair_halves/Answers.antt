@@ -2,7 +2,7 @@ use Rattle.std.proofs.Common.{◌∙◌, rules}
 use Rattle.pairs.proofs.Generated.{generated_pair}
 use Rattle.items.specs.Items.{words}
 use Rattle.items.specs.Pairs.{upper, lower}
-use Rattle.items.proofs.pairs.pair_halves.Goals as goal
+use Rattle.items.proofs.pair_items.pair_halves.Goals as goal
 
 pub returns : goal.returns
 unfolding words upper lower

@@ -1,7 +1,7 @@
 use Rattle.std.proofs.Common.{w64, SFits, rules}
 use Rattle.std.proofs.lemmas.Int.{to_z-of_z}
 use Rattle.items.specs.Pairs.{held}
-use Rattle.items.proofs.pairs.held_by.Goals as goal
+use Rattle.items.proofs.pair_items.held_by.Goals as goal
 
 pub returns : goal.returns
 unfolding held
