@@ -1,6 +1,6 @@
 -- A sheet's lines and a line's fields write it, and nothing else does.
 use Rattle.std.proofs.Common.{◌≡◌, ℕ, ◌<◌, Bool, true, false, cond, eqb, List, [], ◌∷◌, ◌++◌, length, sym, refl, ap, ◌∙◌, arith}
-use Rattle.std.specs.List.{AllByRecursion as All}
+use Rattle.std.specs.List.{AllByRecursion}
 use Rattle.std.proofs.lemmas.List.{append-nil}
 use Rattle.std.proofs.lemmas.Bool.{eqb-true, eqb-false, ne_eqb, cond-false}
 use Rattle.text.specs.Bytes.{Without}
@@ -59,15 +59,15 @@ lines_exact s = (tidy-lines s, sheet-lines s, λ ls h e. sym (lines-sheet ls h) 
 
 -- fields
 
-apart_front : (x : ℕ) (fs : List (List ℕ)) → (x ≡ 44 → ⊥) → All (Without 44) fs → All (Without 44) (with_front x fs)
+apart_front : (x : ℕ) (fs : List (List ℕ)) → (x ≡ 44 → ⊥) → AllByRecursion (Without 44) fs → AllByRecursion (Without 44) (with_front x fs)
 apart_front x [] ne h = ((ne, tt), tt)
 apart_front x (f ∷ fs) ne h = ((ne, h.0), h.1)
 
-apart_step : (x : ℕ) (fs : List (List ℕ)) (b : Bool) → eqb x 44 ≡ b → All (Without 44) fs → All (Without 44) (cond b ([] ∷ fs) (with_front x fs))
+apart_step : (x : ℕ) (fs : List (List ℕ)) (b : Bool) → eqb x 44 ≡ b → AllByRecursion (Without 44) fs → AllByRecursion (Without 44) (cond b ([] ∷ fs) (with_front x fs))
 apart_step x fs true e h = (tt, h)
 apart_step x fs false e h = apart_front x fs (eqb-false x 44 e) h
 
-apart-fields : (s : List ℕ) → All (Without 44) (fields s)
+apart-fields : (s : List ℕ) → AllByRecursion (Without 44) (fields s)
 apart-fields [] = (tt, tt)
 apart-fields (x ∷ s) = apart_step x (fields s) (eqb x 44) refl (apart-fields s)
 
@@ -98,7 +98,7 @@ one_more : (f s : List ℕ) → Without 44 f → fields (f ++ (44 ∷ s)) ≡ f 
 one_more [] s w = refl
 one_more (x ∷ f) s w = no_comma x (f ++ (44 ∷ s)) w.0 ∙ ap (with_front x) (one_more f s w.1)
 
-fields_line : (fs : List (List ℕ)) → 0 < length fs → All (Without 44) fs → fields (line_of fs) ≡ fs
+fields_line : (fs : List (List ℕ)) → 0 < length fs → AllByRecursion (Without 44) fs → fields (line_of fs) ≡ fs
 fields_line [] l h = absurd (omega arith)
 fields_line (f ∷ []) l h = one_last f h.0
 fields_line (f ∷ g ∷ fs) l h = one_more f (line_of (g ∷ fs)) h.0 ∙ ap (λ r. f ∷ r) (fields_line (g ∷ fs) (omega arith) h.1)

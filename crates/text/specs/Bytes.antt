@@ -1,6 +1,6 @@
 use Rattle.std.specs.Prelude.{ℕ, ◌+◌, cond, List, [], ◌∷◌, length, drop, Some, None, Option, ◌==◌, ◌≢◌}
 use Rattle.std.specs.Option.{option_map}
-use Rattle.std.specs.List.{AllByRecursion as All}
+use Rattle.std.specs.List.{AllByRecursion}
 
 -- the bytes before the first `mark`, all of them where there is none
 abbrev pub until : ℕ → List ℕ → List ℕ
@@ -18,4 +18,4 @@ mark_from mark xs place = option_map (λ t. place + length t) (to_mark mark (dro
 
 -- no byte is `mark`
 abbrev pub Without : ℕ → List ℕ → Type 0
-Without mark xs = All (λ x. x ≢ mark) xs
+Without mark xs = AllByRecursion (λ x. x ≢ mark) xs

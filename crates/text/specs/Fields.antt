@@ -1,7 +1,7 @@
 -- A line's fields are the parts between its commas, byte 44.
 use Rattle.std.specs.Prelude.{◌≡◌, ℕ, zero, suc, ◌+◌, ◌<◌, Bool, cond, ◌&&◌, ◌||◌, List, [], ◌∷◌, ◌++◌, length, Some, None, Option, ◌==◌, nat_le}
 use Rattle.std.specs.Option.{option_map}
-use Rattle.std.specs.List.{AllByRecursion as All, slice_get}
+use Rattle.std.specs.List.{AllByRecursion, slice_get}
 use Rattle.std.specs.Str.{bytes_eq}
 use Rattle.text.specs.Bytes.{Without}
 
@@ -63,7 +63,7 @@ line_of (f ∷ fs) = f ++ behind_commas fs
 -- at least one text, and none holds a comma
 pub record Apart (fs : List (List ℕ)) : Type 0 where
   pub any : 0 < length fs
-  pub none : All (Without 44) fs
+  pub none : AllByRecursion (Without 44) fs
 
 -- a line's fields are the only such texts that write it
 abbrev pub FieldsExact : Type 0
