@@ -1,5 +1,5 @@
 -- Answers about pairs, in the terms of a listing. Assumes nothing.
-use Rattle.std.proofs.Common.{◌≡◌, Bool, true, false, ℤ, Some, None, Option, sym, refl, ap, ◌∙◌, MatchOption}
+use Rattle.std.proofs.Common.{◌≡◌, true, false, ℤ, Some, None, Option, sym, ap, ◌∙◌, MatchOption}
 use Rattle.operands.specs.Ranges.{Makeable, made}
 use Rattle.operands.specs.declared.imms.Imm12.{Imm12}
 use Rattle.operands.specs.declared.imms.Imm20.{Imm20}

@@ -1,9 +1,9 @@
 -- Items and their halfwords. Assumes nothing.
-use Rattle.std.proofs.Common.{◌≡◌, ℕ, suc, ◌/◌, ◌%◌, ◌<◌, ◌≤◌, Bool, true, false, cond, eqb, List, [], ◌∷◌, ◌++◌, map, length, ℤ, sym, refl, ap, ◌∙◌, ap₂, arith}
+use Rattle.std.proofs.Common.{◌≡◌, ℕ, ◌/◌, ◌%◌, ◌≤◌, Bool, true, false, cond, eqb, List, [], ◌∷◌, ◌++◌, map, length, ℤ, sym, refl, ap, ◌∙◌, ap₂, arith}
 use Rattle.formats.specs.Layouts.{size}
 use Rattle.operations.specs.Manual.{form_at}
 use Rattle.instructions.specs.declared.instruction.Instruction.{Instruction}
-use Rattle.instructions.specs.Words.{word_of, halves}
+use Rattle.instructions.specs.Words.{word_of}
 use Rattle.reading.specs.Reading.{listing}
 use Rattle.reading.proofs.Tell.{halfwords_tell}
 use Rattle.items.specs.Items.{Item, item_of, Lawful, AllLawful, words, halfs, aimed_at}

@@ -1,14 +1,12 @@
 -- A constant's pair of items. Assumes nothing.
-use Rattle.std.proofs.Common.{◌≡◌, ℕ, ◌+◌, ◌/◌, ◌%◌, ◌<◌, Bool, true, false, cond, eqb, List, [], ◌∷◌, ◌++◌, length, get_or, ℤ, sym, refl, ap, ◌∙◌, subst, ap₂, add-zero, arith, lit<}
+use Rattle.std.proofs.Common.{◌≡◌, ℕ, ◌+◌, ◌<◌, true, false, List, [], ◌∷◌, ◌++◌, length, get_or, ℤ, sym, refl, ap, ◌∙◌, subst, add-zero, lit<}
 use Rattle.std.proofs.lemmas.List.{get_or-append-add}
 use Rattle.formats.specs.Layouts.{size}
-use Rattle.operations.specs.declared.row.Form.{Form}
 use Rattle.operations.specs.Manual.{operations, form_at, count}
-use Rattle.instructions.specs.Faults.{reaches}
 use Rattle.instructions.specs.Words.{word_of, halves}
 use Rattle.pairs.specs.Pairs as pairs
 use Rattle.pairs.proofs.Words.{lui_is, addi_is, lui_size, addi_size, pair-words, pair-holds}
-use Rattle.items.specs.Items.{Item, Lawful, words, jumps}
+use Rattle.items.specs.Items.{Lawful, words, jumps}
 use Rattle.items.specs.Pairs.{register_ok, makeable, upper, lower, pair, held, held_at}
 use Rattle.items.specs.Laws.{PairLaws}
 

@@ -1,15 +1,13 @@
 -- Jumps, where they stand and at another distance. Assumes nothing.
-use Rattle.std.proofs.Common.{◌≡◌, ℕ, ◌+◌, ◌*◌, ◌%◌, ◌<◌, ◌≤◌, Bool, true, false, cond, eqb, ◌⊎◌, List, [], ◌∷◌, ◌++◌, length, get_or, take, ℤ, Some, None, Option, sym, refl, ap, ◌∙◌, subst, inl, inr, arith, length-take}
+use Rattle.std.proofs.Common.{◌≡◌, ℕ, ◌+◌, ◌*◌, ◌%◌, ◌≤◌, Bool, true, false, cond, eqb, ◌⊎◌, List, ◌++◌, length, get_or, take, ℤ, Some, None, Option, sym, refl, ap, ◌∙◌, inl, inr, arith}
 use Rattle.std.specs.List.{slice_get}
 use Rattle.std.proofs.lemmas.Option.{slice_get-get_or, slice_get_past as nth_past}
-use Rattle.std.proofs.lemmas.Bool.{cases_lt, eqb-true}
+use Rattle.std.proofs.lemmas.Bool.{cases_lt}
 use Rattle.store.specs.Puts.{applied, puts}
-use Rattle.formats.specs.Layouts.{size}
 use Rattle.operations.specs.Manual.{form_at}
 use Rattle.instructions.specs.Words.{word_of}
 use Rattle.instructions.proofs.Sizes.{low-bits_tell}
-use Rattle.reading.specs.Places.{begun, with_high, word_at}
-use Rattle.aiming.specs.Standing.{jump_at}
+use Rattle.reading.specs.Places.{begun, with_high}
 use Rattle.aiming.proofs.Lawfuls.{aimed-lawful}
 use Rattle.aiming.proofs.Places.{nth_take, nth_take_past}
 use Rattle.aiming.proofs.Stands.{halfwords_length, jump_amid, jump_here, jump-apart, jump-put}

@@ -1,4 +1,4 @@
-use Rattle.std.proofs.Common.{◌∙◌, rules}
+use Rattle.std.proofs.Common.{◌∙◌}
 use Rattle.pairs.proofs.Generated.{generated_pair}
 use Rattle.items.specs.Items.{words}
 use Rattle.items.specs.Pairs.{upper, lower}

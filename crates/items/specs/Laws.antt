@@ -1,5 +1,5 @@
 -- What holds of items, in the terms that a program's theorem rests on. Assumes nothing.
-use Rattle.std.specs.Prelude.{◌≡◌, ℕ, ◌+◌, ◌%◌, ◌≤◌, true, false, cond, ◌⊎◌, List, [], ◌∷◌, ◌++◌, map, length, ℤ, Some, ◌==◌, slice_index}
+use Rattle.std.specs.Prelude.{◌≡◌, ℕ, ◌+◌, ◌%◌, ◌≤◌, true, false, cond, ◌⊎◌, List, ◌++◌, map, length, ℤ, Some, ◌==◌, slice_index}
 use Rattle.store.specs.Puts.{applied, puts}
 use Rattle.instructions.specs.declared.instruction.Instruction.{Instruction}
 use Rattle.reading.specs.Reading.{listing}
