@@ -387,7 +387,7 @@ pub fn encode_cl_type(op: ClOp, dest: ShortReg, base: ShortReg, imm: UImm5) -> u
     }
 }
 
-// A unit_stride vector load.
+// A unit-stride vector load.
 pub fn encode_vmem_load(
     opcode: u32,
     vd: Reg,
@@ -423,7 +423,7 @@ pub fn encode_vmem_load(
     Ok(bits)
 }
 
-// A unit_stride vector store: the load's word, with the stored register for the loaded one.
+// A unit-stride vector store: the load's word, with the stored register for the loaded one.
 pub fn encode_vmem_store(
     opcode: u32,
     vs3: Reg,

@@ -11,7 +11,7 @@ pub enum Kind {
     V,
     // vector arithmetic with a constant
     VImm,
-    // vector loads and stores, unit_stride
+    // vector loads and stores, unit-stride
     VMem,
     Cr,
     // CR with the one register rs1

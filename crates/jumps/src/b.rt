@@ -4,14 +4,14 @@ ghost use Rattle.operands.specs.Ranges.{halved};
 ghost use Rattle.formats.specs.declared.kind.Kind.TheVariants.{B as B-kind};
 ghost use Rattle.jumps.specs.Operands.{B-values, B-fault, B-codes};
 ghost use Rattle.std.proofs.Common.{lit<, ap, sym, subst, rules};
-ghost use Rattle.operands.proofs.Sames.{b-distance-lt, same_num, same-b-distance, b-distance_of, b-distance_of-bits};
-ghost use Rattle.formats.specs.declared.kind.Kind.TheVariants as Thevariants;
+ghost use Rattle.operands.proofs.Sames.{b_distance_lt, same_num, same-b-distance, b_distance_of, b_distance_of_bits};
+ghost use Rattle.formats.specs.declared.kind.Kind.TheVariants as kinds;
 ghost use Rattle.formats.specs.Layouts.{layout};
 ghost use Rattle.formats.proofs.Codes.{narrow, none-wide, none-there};
 ghost use Rattle.formats.proofs.Sound.{fit_of};
 ghost use Rattle.bits.specs.declared.part.Values.{Values};
 ghost use Rattle.bits.specs.declared.part.Field.TheVariants.{D, A, N, M, Opcode, Funct3, Funct};
-ghost use Rattle.bits.specs.declared.part.Field.TheVariants as FieldThevariants;
+ghost use Rattle.bits.specs.declared.part.Field.TheVariants as field_names;
 ghost use Rattle.jumps.specs.declared.operands_of.BOperands.{BOperands};
 
 use crate::operands_of::BOperands;
@@ -39,7 +39,7 @@ impl Format for B {
 
     ghost fits = { λ o e.
         let c = narrow (B-codes o) e in
-        fit_of (layout Thevariants.B) (B-values o) (lit< tt) o.rs1.ok o.rs2.ok (b-distance-lt o.distance) (lit< tt) c.0 c.1.0 (lit< tt) };
+        fit_of (layout kinds.B) (B-values o) (lit< tt) o.rs1.ok o.rs2.ok (b_distance_lt o.distance) (lit< tt) c.0 c.1.0 (lit< tt) };
 
     ghost known = { λ o p e.
         let at : (f : Values → ℕ) → f (B-values o) ≡ f (B-values p) = λ f. ap f e in
@@ -54,8 +54,8 @@ impl Format for B {
     ghost allowed = { Prim.search rules };
 
     ghost held = { λ v h t.
-        let o : BOperands = record { opcode = v.opcode; funct3 = v.funct3; rs1 = record { value = v.a; ok = h A }; rs2 = record { value = v.b; ok = h FieldThevariants.B }; distance = b-distance_of v.n (h N) } in
-        (o, (none-wide (B-codes o) (h Opcode, (h Funct3, tt)), λ i. record { d = none-there v.d (h D) i; a = v.a; b = v.b; n = b-distance_of-bits v.n (h N) i; m = none-there v.m (h M) i; opcode = v.opcode; funct3 = v.funct3; funct = none-there v.funct (h Funct) i })) };
+        let o : BOperands = record { opcode = v.opcode; funct3 = v.funct3; rs1 = record { value = v.a; ok = h A }; rs2 = record { value = v.b; ok = h field_names.B }; distance = b_distance_of v.n (h N) } in
+        (o, (none-wide (B-codes o) (h Opcode, (h Funct3, tt)), λ i. record { d = none-there v.d (h D) i; a = v.a; b = v.b; n = b_distance_of_bits v.n (h N) i; m = none-there v.m (h M) i; opcode = v.opcode; funct3 = v.funct3; funct = none-there v.funct (h Funct) i })) };
 
     fn kind_of() -> Kind {
         Kind::B

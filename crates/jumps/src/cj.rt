@@ -4,8 +4,8 @@ ghost use Rattle.operands.specs.Ranges.{halved};
 ghost use Rattle.formats.specs.declared.kind.Kind.TheVariants.{Cj as Cj-kind};
 ghost use Rattle.jumps.specs.Operands.{Cj-values, Cj-fault, Cj-codes};
 ghost use Rattle.std.proofs.Common.{lit<, ap, sym, subst, rules};
-ghost use Rattle.operands.proofs.Sames.{cj_distance-lt, same_cj_distance, cj_distance_of, cj_distance_of-bits};
-ghost use Rattle.formats.specs.declared.kind.Kind.TheVariants as Thevariants;
+ghost use Rattle.operands.proofs.Sames.{cj_distance_lt, same_cj_distance, cj_distance_of, cj_distance_of_bits};
+ghost use Rattle.formats.specs.declared.kind.Kind.TheVariants as kinds;
 ghost use Rattle.formats.specs.Layouts.{layout};
 ghost use Rattle.formats.proofs.Codes.{narrow, none-wide, none-there};
 ghost use Rattle.formats.proofs.Sound.{fit_of};
@@ -37,7 +37,7 @@ impl Format for Cj {
 
     ghost fits = { λ o e.
         let c = narrow (Cj-codes o) e in
-        fit_of (layout Thevariants.Cj) (Cj-values o) (lit< tt) (lit< tt) (lit< tt) (cj_distance-lt o.distance) (lit< tt) c.0 c.1.0 (lit< tt) };
+        fit_of (layout kinds.Cj) (Cj-values o) (lit< tt) (lit< tt) (lit< tt) (cj_distance_lt o.distance) (lit< tt) c.0 c.1.0 (lit< tt) };
 
     ghost known = { λ o p e.
         let at : (f : Values → ℕ) → f (Cj-values o) ≡ f (Cj-values p) = λ f. ap f e in
@@ -51,7 +51,7 @@ impl Format for Cj {
 
     ghost held = { λ v h t.
         let o : CjOperands = record { opcode = v.opcode; distance = cj_distance_of v.n (h N); funct3 = v.funct3 } in
-        (o, (none-wide (Cj-codes o) (h Opcode, (h Funct3, tt)), λ i. record { d = none-there v.d (h D) i; a = none-there v.a (h A) i; b = none-there v.b (h B) i; n = cj_distance_of-bits v.n (h N) i; m = none-there v.m (h M) i; opcode = v.opcode; funct3 = v.funct3; funct = none-there v.funct (h Funct) i })) };
+        (o, (none-wide (Cj-codes o) (h Opcode, (h Funct3, tt)), λ i. record { d = none-there v.d (h D) i; a = none-there v.a (h A) i; b = none-there v.b (h B) i; n = cj_distance_of_bits v.n (h N) i; m = none-there v.m (h M) i; opcode = v.opcode; funct3 = v.funct3; funct = none-there v.funct (h Funct) i })) };
 
     fn kind_of() -> Kind {
         Kind::Cj

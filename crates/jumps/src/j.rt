@@ -4,8 +4,8 @@ ghost use Rattle.operands.specs.Ranges.{halved};
 ghost use Rattle.formats.specs.declared.kind.Kind.TheVariants.{J as J-kind};
 ghost use Rattle.jumps.specs.Operands.{J-values, J-fault, J-codes};
 ghost use Rattle.std.proofs.Common.{lit<, ap, sym, subst, rules};
-ghost use Rattle.operands.proofs.Sames.{j_distance-lt, same_num, same_j_distance, j_distance_of, j_distance_of-bits};
-ghost use Rattle.formats.specs.declared.kind.Kind.TheVariants as Thevariants;
+ghost use Rattle.operands.proofs.Sames.{j_distance_lt, same_num, same_j_distance, j_distance_of, j_distance_of_bits};
+ghost use Rattle.formats.specs.declared.kind.Kind.TheVariants as kinds;
 ghost use Rattle.formats.specs.Layouts.{layout};
 ghost use Rattle.formats.proofs.Codes.{narrow, none-wide, none-there};
 ghost use Rattle.formats.proofs.Sound.{fit_of};
@@ -38,7 +38,7 @@ impl Format for J {
 
     ghost fits = { λ o e.
         let c = narrow (J-codes o) e in
-        fit_of (layout Thevariants.J) (J-values o) o.rd.ok (lit< tt) (lit< tt) (j_distance-lt o.distance) (lit< tt) c.0 (lit< tt) (lit< tt) };
+        fit_of (layout kinds.J) (J-values o) o.rd.ok (lit< tt) (lit< tt) (j_distance_lt o.distance) (lit< tt) c.0 (lit< tt) (lit< tt) };
 
     ghost known = { λ o p e.
         let at : (f : Values → ℕ) → f (J-values o) ≡ f (J-values p) = λ f. ap f e in
@@ -52,7 +52,7 @@ impl Format for J {
 
     ghost held = { λ v h t.
         let o : JOperands = record { opcode = v.opcode; rd = record { value = v.d; ok = h D }; distance = j_distance_of v.n (h N) } in
-        (o, (none-wide (J-codes o) (h Opcode, tt), λ i. record { d = v.d; a = none-there v.a (h A) i; b = none-there v.b (h B) i; n = j_distance_of-bits v.n (h N) i; m = none-there v.m (h M) i; opcode = v.opcode; funct3 = none-there v.funct3 (h Funct3) i; funct = none-there v.funct (h Funct) i })) };
+        (o, (none-wide (J-codes o) (h Opcode, tt), λ i. record { d = v.d; a = none-there v.a (h A) i; b = none-there v.b (h B) i; n = j_distance_of_bits v.n (h N) i; m = none-there v.m (h M) i; opcode = v.opcode; funct3 = none-there v.funct3 (h Funct3) i; funct = none-there v.funct (h Funct) i })) };
 
     fn kind_of() -> Kind {
         Kind::J

@@ -3,7 +3,7 @@ ghost use Rattle.std.specs.Prelude.{◌≡◌, ℕ, true};
 ghost use Rattle.formats.specs.declared.kind.Kind.TheVariants.{CsDouble as CsDouble-kind};
 ghost use Rattle.memory.specs.Operands.{CsDouble-values, CsDouble-fault, CsDouble-codes};
 ghost use Rattle.std.proofs.Common.{lit<, ap, rules};
-ghost use Rattle.formats.specs.declared.kind.Kind.TheVariants as Thevariants;
+ghost use Rattle.formats.specs.declared.kind.Kind.TheVariants as kinds;
 ghost use Rattle.formats.specs.Layouts.{layout};
 ghost use Rattle.formats.proofs.Codes.{narrow, none-wide, none-there};
 ghost use Rattle.formats.proofs.Sound.{fit_of};
@@ -36,7 +36,7 @@ impl Format for CsDouble {
 
     ghost fits = { λ o e.
         let c = narrow (CsDouble-codes o) e in
-        fit_of (layout Thevariants.CsDouble) (CsDouble-values o) (lit< tt) o.base.ok o.src.ok o.imm.ok (lit< tt) c.0 c.1.0 (lit< tt) };
+        fit_of (layout kinds.CsDouble) (CsDouble-values o) (lit< tt) o.base.ok o.src.ok o.imm.ok (lit< tt) c.0 c.1.0 (lit< tt) };
 
     ghost known = { λ o p e.
         let at : (f : Values → ℕ) → f (CsDouble-values o) ≡ f (CsDouble-values p) = λ f. ap f e in

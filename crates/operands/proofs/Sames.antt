@@ -106,21 +106,21 @@ imm20_of_bits n h = twos-signed 20 n h
 
 -- ---- distances, by the width
 
-pub b-distance-lt : (a : BDistance) → halved 12 a.value < 2 ^ 12
-b-distance-lt a = halved-lt 12 a.value a.ok
+pub b_distance_lt : (a : BDistance) → halved 12 a.value < 2 ^ 12
+b_distance_lt a = halved-lt 12 a.value a.ok
 
 pub same-b-distance : (a b : BDistance) → halved 12 a.value ≡ halved 12 b.value → a ≡ b
 same-b-distance a b e = let z = one_distance 12 a.value b.value a.ok b.ok e in values_one BDistance-is.struct BDistance-is.the_propositions a b (λ i. (z i, tt))
 
-pub b-distance_of : (n : ℕ) → n < 2 ^ 12 → BDistance
-b-distance_of n h = record { value = signed 13 (2 * n); ok = in_reach 11 n h }
+pub b_distance_of : (n : ℕ) → n < 2 ^ 12 → BDistance
+b_distance_of n h = record { value = signed 13 (2 * n); ok = in_reach 11 n h }
 
-pub b-distance_of-bits : (n : ℕ) (h : n < 2 ^ 12) → halved 12 (b-distance_of n h).value ≡ n
-unfolding b-distance_of
-b-distance_of-bits n h = halved-signed 12 n h
+pub b_distance_of_bits : (n : ℕ) (h : n < 2 ^ 12) → halved 12 (b_distance_of n h).value ≡ n
+unfolding b_distance_of
+b_distance_of_bits n h = halved-signed 12 n h
 
-pub j_distance-lt : (a : JDistance) → halved 20 a.value < 2 ^ 20
-j_distance-lt a = halved-lt 20 a.value a.ok
+pub j_distance_lt : (a : JDistance) → halved 20 a.value < 2 ^ 20
+j_distance_lt a = halved-lt 20 a.value a.ok
 
 pub same_j_distance : (a b : JDistance) → halved 20 a.value ≡ halved 20 b.value → a ≡ b
 same_j_distance a b e = let z = one_distance 20 a.value b.value a.ok b.ok e in values_one JDistance-is.struct JDistance-is.the_propositions a b (λ i. (z i, tt))
@@ -128,12 +128,12 @@ same_j_distance a b e = let z = one_distance 20 a.value b.value a.ok b.ok e in v
 pub j_distance_of : (n : ℕ) → n < 2 ^ 20 → JDistance
 j_distance_of n h = record { value = signed 21 (2 * n); ok = in_reach 19 n h }
 
-pub j_distance_of-bits : (n : ℕ) (h : n < 2 ^ 20) → halved 20 (j_distance_of n h).value ≡ n
+pub j_distance_of_bits : (n : ℕ) (h : n < 2 ^ 20) → halved 20 (j_distance_of n h).value ≡ n
 unfolding j_distance_of
-j_distance_of-bits n h = halved-signed 20 n h
+j_distance_of_bits n h = halved-signed 20 n h
 
-pub cj_distance-lt : (a : CjDistance) → halved 11 a.value < 2 ^ 11
-cj_distance-lt a = halved-lt 11 a.value a.ok
+pub cj_distance_lt : (a : CjDistance) → halved 11 a.value < 2 ^ 11
+cj_distance_lt a = halved-lt 11 a.value a.ok
 
 pub same_cj_distance : (a b : CjDistance) → halved 11 a.value ≡ halved 11 b.value → a ≡ b
 same_cj_distance a b e = let z = one_distance 11 a.value b.value a.ok b.ok e in values_one CjDistance-is.struct CjDistance-is.the_propositions a b (λ i. (z i, tt))
@@ -141,9 +141,9 @@ same_cj_distance a b e = let z = one_distance 11 a.value b.value a.ok b.ok e in 
 pub cj_distance_of : (n : ℕ) → n < 2 ^ 11 → CjDistance
 cj_distance_of n h = record { value = signed 12 (2 * n); ok = in_reach 10 n h }
 
-pub cj_distance_of-bits : (n : ℕ) (h : n < 2 ^ 11) → halved 11 (cj_distance_of n h).value ≡ n
+pub cj_distance_of_bits : (n : ℕ) (h : n < 2 ^ 11) → halved 11 (cj_distance_of n h).value ≡ n
 unfolding cj_distance_of
-cj_distance_of-bits n h = halved-signed 11 n h
+cj_distance_of_bits n h = halved-signed 11 n h
 
 -- ---- masking
 
@@ -161,7 +161,7 @@ unfoldable pub mask_of : (n : ℕ) → n < 2 → VecOpMasking
 mask_of zero h = Enabled
 mask_of (suc n) h = Disabled
 
-pub mask_of-bits : (n : ℕ) (h : n < 2) → mask_bit (mask_of n h) ≡ n
+pub mask_of_bits : (n : ℕ) (h : n < 2) → mask_bit (mask_of n h) ≡ n
 unfolding mask_of
-mask_of-bits zero h = refl
-mask_of-bits (suc n) h = omega arith
+mask_of_bits zero h = refl
+mask_of_bits (suc n) h = omega arith

@@ -150,7 +150,7 @@ always e = changed e Always e.form.forbids.sources e.form.forbids.mask
 abbrev never : Entry → Entry
 never e = changed e Never e.form.forbids.sources e.form.forbids.mask
 
--- unit_stride loads and stores; funct3 is the width. A masked load may not write v0
+-- unit-stride loads and stores; funct3 is the width. A masked load may not write v0
 abbrev vload : List ℕ → ℕ → Entry
 vload nm f3 = operation nm VMem 7 f3 0 v x Absent NoNumber Free false true
 

@@ -1,6 +1,6 @@
 // What an encoder answers.
 ghost use Rattle.std.specs.Prelude.{◌≡◌};
-ghost use Rattle.replay.specs.Words.{wide as wide_of, half as half_of_lem};
+ghost use Rattle.replay.specs.Words.{wide as wide_of, half as half_of};
 
 use encoders::faults::EncodeFault;
 
@@ -21,7 +21,7 @@ pub fn wide(r: Result<u32, EncodeFault>) -> Answer
 }
 
 pub fn half(r: Result<u16, EncodeFault>) -> Answer
-    ensures { result ≡ half_of_lem r }
+    ensures { result ≡ half_of r }
 {
     match r {
         Ok(word) => Answer::Half(word),

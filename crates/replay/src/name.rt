@@ -1,7 +1,7 @@
 // The operations and widths that the fields of a line name; none where a field is no such name.
 ghost use Rattle.std.specs.Prelude.{◌≡◌};
 ghost use Rattle.replay.specs.Operands.{found, text_at};
-ghost use Rattle.replay.specs.Names.{cr_op, ca_op, cj_op, ci_op, ciw_op, cb_op, css_op, cs_op, cl_op, width as width_of_lem, form_named};
+ghost use Rattle.replay.specs.Names.{cr_op, ca_op, cj_op, ci_op, ciw_op, cb_op, css_op, cs_op, cl_op, width as width_of, form_named};
 
 use crate::operand::word;
 use args::{CaOp, CbOp, CiOp, CiwOp, CjOp, ClOp, CrOp, CsOp, CssOp, VecElementWidth};
@@ -158,7 +158,7 @@ pub fn cl_op(line: &[u8], k: usize) -> Option<ClOp>
 }
 
 pub fn width(line: &[u8], k: usize) -> Option<VecElementWidth>
-    ensures { result ≡ found (text_at line.now k) width_of_lem }
+    ensures { result ≡ found (text_at line.now k) width_of }
 {
     let t = word(line, k)?;
     if same(t, b"E8") {

@@ -18,7 +18,9 @@ mod tests {
     fn answered(rt: &impl Abort, name: &str, input: &[u8], answer: &[u8]) -> Result<(), Fail> {
         let mut bytes = [0xaau8; 4096];
         let output: &mut [u8] = &mut bytes;
-        let n = sheet(input, output)?;
+        let taken = sheet(input, output);
+        assert!(rt; taken.is_ok(), "{name}");
+        let n = taken?;
         assert_eq!(rt; &output[0..n], answer, "{name}");
         for b in &output[n..] {
             assert_eq!(rt; *b, 0xaa, "{name}");
@@ -341,37 +343,37 @@ mod tests {
     fn odd_bytes(rt: HostRuntime) -> Result<(), Fail> {
         answered(
             &rt,
-            "odd bytes",
+            "a zero byte for a number",
             b"op,d,a,b,n,m\nadd,\x00,1,2,,\n",
             b"line,fault\n2,18\n",
         )?;
         answered(
             &rt,
-            "odd bytes",
+            "a zero byte behind a number",
             b"op,d,a,b,n,m\nadd,3\x00,1,2,,\n",
             b"line,fault\n2,18\n",
         )?;
         answered(
             &rt,
-            "odd bytes",
+            "a zero byte behind an operation",
             b"op,d,a,b,n,m\nadd\x00,3,1,2,,\n",
             b"line,fault\n2,18\n",
         )?;
         answered(
             &rt,
-            "odd bytes",
+            "a byte that is no text behind a field",
             b"op,d,a,b,n,m\nadd,3,1,2,,\xb2\n",
             b"line,fault\n2,18\n",
         )?;
         answered(
             &rt,
-            "odd bytes",
+            "a byte that is no text for an operation",
             b"op,d,a,b,n,m\n\xff,3,1,2,,\n",
             b"line,fault\n2,18\n",
         )?;
         answered(
             &rt,
-            "odd bytes",
+            "a byte order mark",
             b"\xef\xbb\xbfop,d,a,b,n,m\n",
             b"line,fault\n1,16\n",
         )

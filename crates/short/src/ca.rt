@@ -3,7 +3,7 @@ ghost use Rattle.std.specs.Prelude.{◌≡◌, ℕ, true};
 ghost use Rattle.formats.specs.declared.kind.Kind.TheVariants.{Ca as Ca-kind};
 ghost use Rattle.short.specs.Operands.{Ca-values, Ca-fault, Ca-codes};
 ghost use Rattle.std.proofs.Common.{lit<, ap, rules};
-ghost use Rattle.formats.specs.declared.kind.Kind.TheVariants as Thevariants;
+ghost use Rattle.formats.specs.declared.kind.Kind.TheVariants as kinds;
 ghost use Rattle.formats.specs.Layouts.{layout};
 ghost use Rattle.formats.proofs.Codes.{narrow, none-wide, none-there};
 ghost use Rattle.formats.proofs.Sound.{fit_of};
@@ -35,7 +35,7 @@ impl Format for Ca {
 
     ghost fits = { λ o e.
         let c = narrow (Ca-codes o) e in
-        fit_of (layout Thevariants.Ca) (Ca-values o) o.rd.ok (lit< tt) o.rs2.ok (lit< tt) (lit< tt) c.0 c.1.0 c.1.1.0 };
+        fit_of (layout kinds.Ca) (Ca-values o) o.rd.ok (lit< tt) o.rs2.ok (lit< tt) (lit< tt) c.0 c.1.0 c.1.1.0 };
 
     ghost known = { λ o p e.
         let at : (f : Values → ℕ) → f (Ca-values o) ≡ f (Ca-values p) = λ f. ap f e in

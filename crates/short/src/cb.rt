@@ -4,7 +4,7 @@ ghost use Rattle.formats.specs.declared.kind.Kind.TheVariants.{Cb as Cb-kind};
 ghost use Rattle.short.specs.Operands.{Cb-values, Cb-fault, Cb-codes};
 ghost use Rattle.std.proofs.Common.{lit<, ap, rules};
 ghost use Rattle.operands.proofs.Sames.{imm6_lt, same_imm6, same-short, imm6_of, imm6_of_bits};
-ghost use Rattle.formats.specs.declared.kind.Kind.TheVariants as Thevariants;
+ghost use Rattle.formats.specs.declared.kind.Kind.TheVariants as kinds;
 ghost use Rattle.formats.specs.Layouts.{layout};
 ghost use Rattle.formats.proofs.Codes.{narrow, none-wide, none-there};
 ghost use Rattle.formats.proofs.Sound.{fit_of};
@@ -36,7 +36,7 @@ impl Format for Cb {
 
     ghost fits = { λ o e.
         let c = narrow (Cb-codes o) e in
-        fit_of (layout Thevariants.Cb) (Cb-values o) o.rd.ok (lit< tt) (lit< tt) (imm6_lt o.imm) (lit< tt) c.0 c.1.1.0 c.1.0 };
+        fit_of (layout kinds.Cb) (Cb-values o) o.rd.ok (lit< tt) (lit< tt) (imm6_lt o.imm) (lit< tt) c.0 c.1.1.0 c.1.0 };
 
     ghost known = { λ o p e.
         let at : (f : Values → ℕ) → f (Cb-values o) ≡ f (Cb-values p) = λ f. ap f e in

@@ -4,7 +4,7 @@ ghost use Rattle.formats.specs.declared.kind.Kind.TheVariants.{Ci as Ci-kind};
 ghost use Rattle.short.specs.Operands.{Ci-values, Ci-fault, Ci-codes};
 ghost use Rattle.std.proofs.Common.{lit<, ap, rules};
 ghost use Rattle.operands.proofs.Sames.{imm6_lt, same_imm6, same_num, imm6_of, imm6_of_bits};
-ghost use Rattle.formats.specs.declared.kind.Kind.TheVariants as Thevariants;
+ghost use Rattle.formats.specs.declared.kind.Kind.TheVariants as kinds;
 ghost use Rattle.formats.specs.Layouts.{layout};
 ghost use Rattle.formats.proofs.Codes.{narrow, none-wide, none-there};
 ghost use Rattle.formats.proofs.Sound.{fit_of};
@@ -36,7 +36,7 @@ impl Format for Ci {
 
     ghost fits = { λ o e.
         let c = narrow (Ci-codes o) e in
-        fit_of (layout Thevariants.Ci) (Ci-values o) o.rd.ok (lit< tt) (lit< tt) (imm6_lt o.imm) (lit< tt) c.0 c.1.0 (lit< tt) };
+        fit_of (layout kinds.Ci) (Ci-values o) o.rd.ok (lit< tt) (lit< tt) (imm6_lt o.imm) (lit< tt) c.0 c.1.0 (lit< tt) };
 
     ghost known = { λ o p e.
         let at : (f : Values → ℕ) → f (Ci-values o) ≡ f (Ci-values p) = λ f. ap f e in

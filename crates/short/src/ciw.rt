@@ -3,7 +3,7 @@ ghost use Rattle.std.specs.Prelude.{◌≡◌, ℕ, true};
 ghost use Rattle.formats.specs.declared.kind.Kind.TheVariants.{Ciw as Ciw-kind};
 ghost use Rattle.short.specs.Operands.{Ciw-values, Ciw-fault, Ciw-codes};
 ghost use Rattle.std.proofs.Common.{lit<, ap, rules};
-ghost use Rattle.formats.specs.declared.kind.Kind.TheVariants as Thevariants;
+ghost use Rattle.formats.specs.declared.kind.Kind.TheVariants as kinds;
 ghost use Rattle.formats.specs.Layouts.{layout};
 ghost use Rattle.formats.proofs.Codes.{narrow, none-wide, none-there};
 ghost use Rattle.formats.proofs.Sound.{fit_of};
@@ -36,7 +36,7 @@ impl Format for Ciw {
 
     ghost fits = { λ o e.
         let c = narrow (Ciw-codes o) e in
-        fit_of (layout Thevariants.Ciw) (Ciw-values o) o.rd.ok (lit< tt) (lit< tt) o.imm.ok (lit< tt) c.0 c.1.0 (lit< tt) };
+        fit_of (layout kinds.Ciw) (Ciw-values o) o.rd.ok (lit< tt) (lit< tt) o.imm.ok (lit< tt) c.0 c.1.0 (lit< tt) };
 
     ghost known = { λ o p e.
         let at : (f : Values → ℕ) → f (Ciw-values o) ≡ f (Ciw-values p) = λ f. ap f e in

@@ -3,7 +3,7 @@ ghost use Rattle.std.specs.Prelude.{◌≡◌, ℕ, true};
 ghost use Rattle.formats.specs.declared.kind.Kind.TheVariants.{Cr2 as Cr2-kind};
 ghost use Rattle.short.specs.Operands.{Cr2-values, Cr2-fault, Cr2-codes};
 ghost use Rattle.std.proofs.Common.{lit<, ap, rules};
-ghost use Rattle.formats.specs.declared.kind.Kind.TheVariants as Thevariants;
+ghost use Rattle.formats.specs.declared.kind.Kind.TheVariants as kinds;
 ghost use Rattle.formats.specs.Layouts.{layout};
 ghost use Rattle.formats.proofs.Codes.{narrow, none-wide, none-there};
 ghost use Rattle.formats.proofs.Sound.{fit_of};
@@ -35,7 +35,7 @@ impl Format for Cr2 {
 
     ghost fits = { λ o e.
         let c = narrow (Cr2-codes o) e in
-        fit_of (layout Thevariants.Cr2) (Cr2-values o) (lit< tt) o.rs1.ok (lit< tt) (lit< tt) (lit< tt) c.0 (lit< tt) c.1.0 };
+        fit_of (layout kinds.Cr2) (Cr2-values o) (lit< tt) o.rs1.ok (lit< tt) (lit< tt) (lit< tt) c.0 (lit< tt) c.1.0 };
 
     ghost known = { λ o p e.
         let at : (f : Values → ℕ) → f (Cr2-values o) ≡ f (Cr2-values p) = λ f. ap f e in

@@ -3,7 +3,7 @@ ghost use Rattle.std.specs.Prelude.{◌≡◌, ℕ, true};
 ghost use Rattle.formats.specs.declared.kind.Kind.TheVariants.{CrBare as CrBare-kind};
 ghost use Rattle.short.specs.Operands.{CrBare-values, CrBare-fault, CrBare-codes};
 ghost use Rattle.std.proofs.Common.{lit<, ap, rules};
-ghost use Rattle.formats.specs.declared.kind.Kind.TheVariants as Thevariants;
+ghost use Rattle.formats.specs.declared.kind.Kind.TheVariants as kinds;
 ghost use Rattle.formats.specs.Layouts.{layout};
 ghost use Rattle.formats.proofs.Codes.{narrow, none-wide, none-there};
 ghost use Rattle.formats.proofs.Sound.{fit_of};
@@ -33,7 +33,7 @@ impl Format for CrBare {
 
     ghost fits = { λ o e.
         let c = narrow (CrBare-codes o) e in
-        fit_of (layout Thevariants.CrBare) (CrBare-values o) (lit< tt) (lit< tt) (lit< tt) (lit< tt) (lit< tt) c.0 (lit< tt) c.1.0 };
+        fit_of (layout kinds.CrBare) (CrBare-values o) (lit< tt) (lit< tt) (lit< tt) (lit< tt) (lit< tt) c.0 (lit< tt) c.1.0 };
 
     ghost known = { λ o p e.
         let at : (f : Values → ℕ) → f (CrBare-values o) ≡ f (CrBare-values p) = λ f. ap f e in

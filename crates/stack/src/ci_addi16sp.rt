@@ -4,7 +4,7 @@ ghost use Rattle.formats.specs.declared.kind.Kind.TheVariants.{CiAddi16sp as CiA
 ghost use Rattle.stack.specs.Operands.{CiAddi16sp-values, CiAddi16sp-fault, CiAddi16sp-codes};
 ghost use Rattle.std.proofs.Common.{lit<, ap, rules};
 ghost use Rattle.operands.proofs.Sames.{imm6_lt, same_imm6, imm6_of, imm6_of_bits};
-ghost use Rattle.formats.specs.declared.kind.Kind.TheVariants as Thevariants;
+ghost use Rattle.formats.specs.declared.kind.Kind.TheVariants as kinds;
 ghost use Rattle.formats.specs.Layouts.{layout};
 ghost use Rattle.formats.proofs.Codes.{narrow, none-wide, none-there};
 ghost use Rattle.formats.proofs.Sound.{fit_of};
@@ -35,7 +35,7 @@ impl Format for CiAddi16sp {
 
     ghost fits = { λ o e.
         let c = narrow (CiAddi16sp-codes o) e in
-        fit_of (layout Thevariants.CiAddi16sp) (CiAddi16sp-values o) (lit< tt) (lit< tt) (lit< tt) (imm6_lt o.imm) (lit< tt) c.0 c.1.0 (lit< tt) };
+        fit_of (layout kinds.CiAddi16sp) (CiAddi16sp-values o) (lit< tt) (lit< tt) (lit< tt) (imm6_lt o.imm) (lit< tt) c.0 c.1.0 (lit< tt) };
 
     ghost known = { λ o p e.
         let at : (f : Values → ℕ) → f (CiAddi16sp-values o) ≡ f (CiAddi16sp-values p) = λ f. ap f e in

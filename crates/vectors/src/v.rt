@@ -3,8 +3,8 @@ ghost use Rattle.std.specs.Prelude.{◌≡◌, ℕ, true};
 ghost use Rattle.formats.specs.declared.kind.Kind.TheVariants.{V as V-kind};
 ghost use Rattle.vectors.specs.Operands.{V-values, V-fault, V-codes};
 ghost use Rattle.std.proofs.Common.{lit<, ap, rules};
-ghost use Rattle.operands.proofs.Sames.{mask_lt, same_num, same-mask, mask_of, mask_of-bits};
-ghost use Rattle.formats.specs.declared.kind.Kind.TheVariants as Thevariants;
+ghost use Rattle.operands.proofs.Sames.{mask_lt, same_num, same-mask, mask_of, mask_of_bits};
+ghost use Rattle.formats.specs.declared.kind.Kind.TheVariants as kinds;
 ghost use Rattle.formats.specs.Layouts.{layout};
 ghost use Rattle.formats.proofs.Codes.{narrow, none-wide, none-there};
 ghost use Rattle.formats.proofs.Sound.{fit_of};
@@ -36,7 +36,7 @@ impl Format for V {
 
     ghost fits = { λ o e.
         let c = narrow (V-codes o) e in
-        fit_of (layout Thevariants.V) (V-values o) o.vd.ok o.vs1.ok o.vs2.ok (lit< tt) (mask_lt o.masking) c.0 c.1.0 c.1.1.0 };
+        fit_of (layout kinds.V) (V-values o) o.vd.ok o.vs1.ok o.vs2.ok (lit< tt) (mask_lt o.masking) c.0 c.1.0 c.1.1.0 };
 
     ghost known = { λ o p e.
         let at : (f : Values → ℕ) → f (V-values o) ≡ f (V-values p) = λ f. ap f e in
@@ -54,7 +54,7 @@ impl Format for V {
 
     ghost held = { λ v h t.
         let o : VOperands = record { opcode = v.opcode; vd = record { value = v.d; ok = h D }; funct3 = v.funct3; vs1 = record { value = v.a; ok = h A }; vs2 = record { value = v.b; ok = h B }; masking = mask_of v.m (h M); funct6 = v.funct } in
-        (o, (none-wide (V-codes o) (h Opcode, (h Funct3, (h Funct, tt))), λ i. record { d = v.d; a = v.a; b = v.b; n = none-there v.n (h N) i; m = mask_of-bits v.m (h M) i; opcode = v.opcode; funct3 = v.funct3; funct = v.funct })) };
+        (o, (none-wide (V-codes o) (h Opcode, (h Funct3, (h Funct, tt))), λ i. record { d = v.d; a = v.a; b = v.b; n = none-there v.n (h N) i; m = mask_of_bits v.m (h M) i; opcode = v.opcode; funct3 = v.funct3; funct = v.funct })) };
 
     fn kind_of() -> Kind {
         Kind::V

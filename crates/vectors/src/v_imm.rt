@@ -3,8 +3,8 @@ ghost use Rattle.std.specs.Prelude.{◌≡◌, ℕ, true};
 ghost use Rattle.formats.specs.declared.kind.Kind.TheVariants.{VImm as VImm-kind};
 ghost use Rattle.vectors.specs.Operands.{VImm-values, VImm-fault, VImm-codes};
 ghost use Rattle.std.proofs.Common.{lit<, ap, rules};
-ghost use Rattle.operands.proofs.Sames.{imm5_lt, mask_lt, same_num, same_imm5, same-mask, imm5_of, imm5_of_bits, mask_of, mask_of-bits};
-ghost use Rattle.formats.specs.declared.kind.Kind.TheVariants as Thevariants;
+ghost use Rattle.operands.proofs.Sames.{imm5_lt, mask_lt, same_num, same_imm5, same-mask, imm5_of, imm5_of_bits, mask_of, mask_of_bits};
+ghost use Rattle.formats.specs.declared.kind.Kind.TheVariants as kinds;
 ghost use Rattle.formats.specs.Layouts.{layout};
 ghost use Rattle.formats.proofs.Codes.{narrow, none-wide, none-there};
 ghost use Rattle.formats.proofs.Sound.{fit_of};
@@ -37,7 +37,7 @@ impl Format for VImm {
 
     ghost fits = { λ o e.
         let c = narrow (VImm-codes o) e in
-        fit_of (layout Thevariants.VImm) (VImm-values o) o.vd.ok (lit< tt) o.vs2.ok (imm5_lt o.imm) (mask_lt o.masking) c.0 c.1.0 c.1.1.0 };
+        fit_of (layout kinds.VImm) (VImm-values o) o.vd.ok (lit< tt) o.vs2.ok (imm5_lt o.imm) (mask_lt o.masking) c.0 c.1.0 c.1.1.0 };
 
     ghost known = { λ o p e.
         let at : (f : Values → ℕ) → f (VImm-values o) ≡ f (VImm-values p) = λ f. ap f e in
@@ -55,7 +55,7 @@ impl Format for VImm {
 
     ghost held = { λ v h t.
         let o : VImmOperands = record { opcode = v.opcode; vd = record { value = v.d; ok = h D }; funct3 = v.funct3; imm = imm5_of v.n (h N); vs2 = record { value = v.b; ok = h B }; masking = mask_of v.m (h M); funct6 = v.funct } in
-        (o, (none-wide (VImm-codes o) (h Opcode, (h Funct3, (h Funct, tt))), λ i. record { d = v.d; a = none-there v.a (h A) i; b = v.b; n = imm5_of_bits v.n (h N) i; m = mask_of-bits v.m (h M) i; opcode = v.opcode; funct3 = v.funct3; funct = v.funct })) };
+        (o, (none-wide (VImm-codes o) (h Opcode, (h Funct3, (h Funct, tt))), λ i. record { d = v.d; a = none-there v.a (h A) i; b = v.b; n = imm5_of_bits v.n (h N) i; m = mask_of_bits v.m (h M) i; opcode = v.opcode; funct3 = v.funct3; funct = v.funct })) };
 
     fn kind_of() -> Kind {
         Kind::VImm

@@ -3,8 +3,8 @@ ghost use Rattle.std.specs.Prelude.{◌≡◌, ℕ, true};
 ghost use Rattle.formats.specs.declared.kind.Kind.TheVariants.{VMem as VMem-kind};
 ghost use Rattle.vectors.specs.Operands.{VMem-values, VMem-fault, VMem-codes};
 ghost use Rattle.std.proofs.Common.{lit<, ap, rules};
-ghost use Rattle.operands.proofs.Sames.{mask_lt, same_num, same-mask, mask_of, mask_of-bits};
-ghost use Rattle.formats.specs.declared.kind.Kind.TheVariants as Thevariants;
+ghost use Rattle.operands.proofs.Sames.{mask_lt, same_num, same-mask, mask_of, mask_of_bits};
+ghost use Rattle.formats.specs.declared.kind.Kind.TheVariants as kinds;
 ghost use Rattle.formats.specs.Layouts.{layout};
 ghost use Rattle.formats.proofs.Codes.{narrow, none-wide, none-there};
 ghost use Rattle.formats.proofs.Sound.{fit_of};
@@ -36,7 +36,7 @@ impl Format for VMem {
 
     ghost fits = { λ o e.
         let c = narrow (VMem-codes o) e in
-        fit_of (layout Thevariants.VMem) (VMem-values o) o.vd.ok o.rs1.ok (lit< tt) (lit< tt) (mask_lt o.masking) c.0 c.1.0 (lit< tt) };
+        fit_of (layout kinds.VMem) (VMem-values o) o.vd.ok o.rs1.ok (lit< tt) (lit< tt) (mask_lt o.masking) c.0 c.1.0 (lit< tt) };
 
     ghost known = { λ o p e.
         let at : (f : Values → ℕ) → f (VMem-values o) ≡ f (VMem-values p) = λ f. ap f e in
@@ -52,7 +52,7 @@ impl Format for VMem {
 
     ghost held = { λ v h t.
         let o : VMemOperands = record { opcode = v.opcode; vd = record { value = v.d; ok = h D }; width = v.funct3; rs1 = record { value = v.a; ok = h A }; masking = mask_of v.m (h M) } in
-        (o, (none-wide (VMem-codes o) (h Opcode, (h Funct3, tt)), λ i. record { d = v.d; a = v.a; b = none-there v.b (h B) i; n = none-there v.n (h N) i; m = mask_of-bits v.m (h M) i; opcode = v.opcode; funct3 = v.funct3; funct = none-there v.funct (h Funct) i })) };
+        (o, (none-wide (VMem-codes o) (h Opcode, (h Funct3, tt)), λ i. record { d = v.d; a = v.a; b = none-there v.b (h B) i; n = none-there v.n (h N) i; m = mask_of_bits v.m (h M) i; opcode = v.opcode; funct3 = v.funct3; funct = none-there v.funct (h Funct) i })) };
 
     fn kind_of() -> Kind {
         Kind::VMem

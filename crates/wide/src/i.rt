@@ -4,7 +4,7 @@ ghost use Rattle.formats.specs.declared.kind.Kind.TheVariants.{I as I-kind};
 ghost use Rattle.wide.specs.Operands.{I-values, I-fault, I-codes};
 ghost use Rattle.std.proofs.Common.{lit<, ap, rules};
 ghost use Rattle.operands.proofs.Sames.{imm12_lt, same_num, same_imm12, imm12_of, imm12_of_bits};
-ghost use Rattle.formats.specs.declared.kind.Kind.TheVariants as Thevariants;
+ghost use Rattle.formats.specs.declared.kind.Kind.TheVariants as kinds;
 ghost use Rattle.formats.specs.Layouts.{layout};
 ghost use Rattle.formats.proofs.Codes.{narrow, none-wide, none-there};
 ghost use Rattle.formats.proofs.Sound.{fit_of};
@@ -36,7 +36,7 @@ impl Format for I {
 
     ghost fits = { λ o e.
         let c = narrow (I-codes o) e in
-        fit_of (layout Thevariants.I) (I-values o) o.rd.ok o.rs1.ok (lit< tt) (imm12_lt o.imm) (lit< tt) c.0 c.1.0 (lit< tt) };
+        fit_of (layout kinds.I) (I-values o) o.rd.ok o.rs1.ok (lit< tt) (imm12_lt o.imm) (lit< tt) c.0 c.1.0 (lit< tt) };
 
     ghost known = { λ o p e.
         let at : (f : Values → ℕ) → f (I-values o) ≡ f (I-values p) = λ f. ap f e in

@@ -3,7 +3,7 @@ ghost use Rattle.std.specs.Prelude.{◌≡◌, ℕ, true};
 ghost use Rattle.formats.specs.declared.kind.Kind.TheVariants.{R as R-kind};
 ghost use Rattle.wide.specs.Operands.{R-values, R-fault, R-codes};
 ghost use Rattle.std.proofs.Common.{lit<, ap, rules};
-ghost use Rattle.formats.specs.declared.kind.Kind.TheVariants as Thevariants;
+ghost use Rattle.formats.specs.declared.kind.Kind.TheVariants as kinds;
 ghost use Rattle.formats.specs.Layouts.{layout};
 ghost use Rattle.formats.proofs.Codes.{narrow, none-wide, none-there};
 ghost use Rattle.formats.proofs.Sound.{fit_of};
@@ -35,7 +35,7 @@ impl Format for R {
 
     ghost fits = { λ o e.
         let c = narrow (R-codes o) e in
-        fit_of (layout Thevariants.R) (R-values o) o.rd.ok o.rs1.ok o.rs2.ok (lit< tt) (lit< tt) c.0 c.1.0 c.1.1.0 };
+        fit_of (layout kinds.R) (R-values o) o.rd.ok o.rs1.ok o.rs2.ok (lit< tt) (lit< tt) c.0 c.1.0 c.1.1.0 };
 
     ghost known = { λ o p e.
         let at : (f : Values → ℕ) → f (R-values o) ≡ f (R-values p) = λ f. ap f e in

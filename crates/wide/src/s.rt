@@ -4,7 +4,7 @@ ghost use Rattle.formats.specs.declared.kind.Kind.TheVariants.{S as S-kind};
 ghost use Rattle.wide.specs.Operands.{S-values, S-fault, S-codes};
 ghost use Rattle.std.proofs.Common.{lit<, ap, rules};
 ghost use Rattle.operands.proofs.Sames.{imm12_lt, same_num, same_imm12, imm12_of, imm12_of_bits};
-ghost use Rattle.formats.specs.declared.kind.Kind.TheVariants as Thevariants;
+ghost use Rattle.formats.specs.declared.kind.Kind.TheVariants as kinds;
 ghost use Rattle.formats.specs.Layouts.{layout};
 ghost use Rattle.formats.proofs.Codes.{narrow, none-wide, none-there};
 ghost use Rattle.formats.proofs.Sound.{fit_of};
@@ -36,7 +36,7 @@ impl Format for S {
 
     ghost fits = { λ o e.
         let c = narrow (S-codes o) e in
-        fit_of (layout Thevariants.S) (S-values o) (lit< tt) o.rs1.ok o.rs2.ok (imm12_lt o.imm) (lit< tt) c.0 c.1.0 (lit< tt) };
+        fit_of (layout kinds.S) (S-values o) (lit< tt) o.rs1.ok o.rs2.ok (imm12_lt o.imm) (lit< tt) c.0 c.1.0 (lit< tt) };
 
     ghost known = { λ o p e.
         let at : (f : Values → ℕ) → f (S-values o) ≡ f (S-values p) = λ f. ap f e in

@@ -4,7 +4,7 @@ ghost use Rattle.formats.specs.declared.kind.Kind.TheVariants.{U as U-kind};
 ghost use Rattle.wide.specs.Operands.{U-values, U-fault, U-codes};
 ghost use Rattle.std.proofs.Common.{lit<, ap, rules};
 ghost use Rattle.operands.proofs.Sames.{imm20_lt, same_num, same_imm20, imm20_of, imm20_of_bits};
-ghost use Rattle.formats.specs.declared.kind.Kind.TheVariants as Thevariants;
+ghost use Rattle.formats.specs.declared.kind.Kind.TheVariants as kinds;
 ghost use Rattle.formats.specs.Layouts.{layout};
 ghost use Rattle.formats.proofs.Codes.{narrow, none-wide, none-there};
 ghost use Rattle.formats.proofs.Sound.{fit_of};
@@ -36,7 +36,7 @@ impl Format for U {
 
     ghost fits = { λ o e.
         let c = narrow (U-codes o) e in
-        fit_of (layout Thevariants.U) (U-values o) o.rd.ok (lit< tt) (lit< tt) (imm20_lt o.imm) (lit< tt) c.0 (lit< tt) (lit< tt) };
+        fit_of (layout kinds.U) (U-values o) o.rd.ok (lit< tt) (lit< tt) (imm20_lt o.imm) (lit< tt) c.0 (lit< tt) (lit< tt) };
 
     ghost known = { λ o p e.
         let at : (f : Values → ℕ) → f (U-values o) ≡ f (U-values p) = λ f. ap f e in
