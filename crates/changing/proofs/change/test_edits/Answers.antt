@@ -7,11 +7,11 @@ use Rattle.changing.proofs.change.test_edits.Goals as goal
 
 pub returns-in-Err : goal.returns-in-Err
 returns-in-Err c =
-    sym (c.loop-k.invariant ∙ edits_stop (slots_in c.args.counts c.args.book.now) c.args.counts.used c.args.edits.now c.loop-k.k (omega arith) {a = c.is-inside-there.result} {b = c.is-named-before.result} (search rules) (search rules) c.in-Err.ensures)
+    sym (c.loop-k.invariant ∙ edits_stop (slots_in c.args.counts c.args.book.now) c.args.counts.used c.args.edits.now c.loop-k.k (omega arith) {a = c.is_inside-there.result} {b = c.is_named-before.result} (search rules) (search rules) c.in-Err.ensures)
 
 pub loop-k-preserved : goal.loop-k-preserved
 loop-k-preserved c =
-    c.loop-k.invariant ∙ edits_more (slots_in c.args.counts c.args.book.now) c.args.counts.used c.args.edits.now c.loop-k.k (omega arith) {a = c.is-inside-there.result} {b = c.is-named-before.result} (search rules) (search rules) c.in-default.ensures
+    c.loop-k.invariant ∙ edits_more (slots_in c.args.counts c.args.book.now) c.args.counts.used c.args.edits.now c.loop-k.k (omega arith) {a = c.is_inside-there.result} {b = c.is_named-before.result} (search rules) (search rules) c.in_default.ensures
 
 pub returns : goal.returns
 returns c = sym (c.loop-k.invariant ∙ ap (λ xs. changed_from c.loop-k.k (slots_in c.args.counts c.args.book.now) c.args.counts.used (take c.loop-k.k c.args.edits.now) xs) (drop_all c.loop-k.k c.args.edits.now (omega arith)))

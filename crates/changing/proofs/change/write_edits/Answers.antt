@@ -10,11 +10,11 @@ pub loop-k-preserved : goal.loop-k-preserved
 loop-k-preserved g c =
     let xs = slots_in c.args.counts c.args.book.now in
     let e = get_or c.args.edits.now c.loop-k.k no_edit in
-    let n = ap length c.write-edit.ensures ∙ length-applied (pair_puts c.args.counts.used e.value (numbered xs e.slot)) (g.S.Store.halfwords c.loop-k.store) in (
+    let n = ap length c.write_edit.ensures ∙ length-applied (pair_puts c.args.counts.used e.value (numbered xs e.slot)) (g.S.Store.halfwords c.loop-k.store) in (
       c.loop-k.invariant.0
           ∙ ap (λ es. changed xs c.args.counts.used es (g.S.Store.halfwords c.loop-k.store)) (drop_more c.args.edits.now c.loop-k.k no_edit (omega arith))
           ∙ changed-cons xs c.args.counts.used e (drop (c.loop-k.k + 1) c.args.edits.now) (g.S.Store.halfwords c.loop-k.store)
-          ∙ ap (λ cells. changed xs c.args.counts.used (drop (c.loop-k.k + 1) c.args.edits.now) cells) (sym c.write-edit.ensures),
+          ∙ ap (λ cells. changed xs c.args.counts.used (drop (c.loop-k.k + 1) c.args.edits.now) cells) (sym c.write_edit.ensures),
       (let m = c.loop-k.invariant.1 in omega arith),
     )
 
