@@ -1,6 +1,5 @@
 -- What each call on an open program answers, over numbers and lists: those of counts, book and store in the call's own contract, those of the listing in a program's history. Assumes nothing.
-use Rattle.std.specs.Prelude.{ℕ, ◌+◌, Bool, cond, List, length, ℤ, pos, negsuc, Some, None, Ok, Err, Option, Result, nat_le, nat_lt}
-use Rattle.operations.specs.declared.operation.Operation.{Operation}
+use Rattle.std.specs.Prelude.{ℕ, ◌+◌, cond, List, length, ℤ, pos, negsuc, Some, None, Ok, Err, Option, Result, nat_le, nat_lt}
 use Rattle.instructions.specs.declared.fields.BuildFault.TheVariants as fields
 use Rattle.aiming.specs.declared.faults.JumpFault.{JumpFault}
 use Rattle.aiming.specs.Jumps.{jump_fault, unaimed}

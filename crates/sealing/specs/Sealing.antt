@@ -4,7 +4,7 @@ use Rattle.store.specs.Puts.{applied, puts}
 use Rattle.records.specs.declared.counts.Counts.{Counts}
 use Rattle.records.specs.declared.book.JumpRecord.{JumpRecord}
 use Rattle.records.specs.declared.book.Book.{Book}
-use Rattle.records.specs.Records.{place_of, labels_in, jumps_in, jump_of}
+use Rattle.records.specs.Records.{place_of, labels_in}
 use Rattle.items.specs.Items.{Item, words, in_reach, aimed_at, distance_of, distance, jump_standing}
 use Rattle.sealing.specs.declared.faults.JumpCause.{JumpCause}
 use Rattle.sealing.specs.declared.faults.JumpCause.TheVariants.{Unbound, OutOfReach, NoJump}

@@ -1,4 +1,4 @@
-use Rattle.std.proofs.Common.{◌≡◌, ◌≤◌, length, take, drop}
+use Rattle.std.proofs.Common.{◌≡◌, ◌≤◌, length, drop}
 use Rattle.records.specs.Records.{slots_in}
 use Rattle.changing.specs.Changing.{changed}
 use Rattle.changing.proofs.change.write_edits.Given as goal

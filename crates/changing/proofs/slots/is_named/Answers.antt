@@ -1,4 +1,4 @@
-use Rattle.std.proofs.Common.{◌≡◌, length, get_or, take, sym, ap, ◌∙◌, arith, length-take, rules}
+use Rattle.std.proofs.Common.{get_or, take, sym, ap, ◌∙◌, arith, length-take, rules}
 use Rattle.std.proofs.lemmas.List.{drop_all}
 use Rattle.changing.specs.Changing.{named, no_edit}
 use Rattle.changing.proofs.Entries.{named_hit, named_miss}

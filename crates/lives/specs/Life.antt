@@ -1,5 +1,5 @@
 -- What holds between any two calls of a life, and whole lives. Assumes nothing.
-use Rattle.std.specs.Prelude.{◌≡◌, ℕ, ◌+◌, ◌*◌, ◌<◌, ◌≤◌, ◌⊎◌, List, [], ◌∷◌, ◌++◌, map, length, take, drop, ℤ, pos, negsuc, ◌+ℤ◌, Some, None, Option, slice_index}
+use Rattle.std.specs.Prelude.{◌≡◌, ℕ, ◌+◌, ◌*◌, ◌<◌, ◌≤◌, ◌⊎◌, List, [], ◌∷◌, ◌++◌, map, length, take, drop, pos, ◌+ℤ◌, Some, None, Option, slice_index}
 use Rattle.instructions.specs.declared.instruction.Instruction.{Instruction}
 use Rattle.reading.specs.Reading.{listing}
 use Rattle.records.specs.Records.{place_of}

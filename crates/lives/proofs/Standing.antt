@@ -1,10 +1,10 @@
 -- Jumps and slots that stand among the items. Assumes nothing.
-use Rattle.std.proofs.Common.{◌≡◌, ℕ, zero, suc, ◌+◌, ◌<◌, ◌≤◌, Bool, true, false, cond, eqb, List, [], ◌∷◌, ◌++◌, map, length, take, drop, set, ℤ, pos, Some, None, Option, sym, refl, ap, ◌∙◌, subst, append_assoc, arith, length-append, take_all}
+use Rattle.std.proofs.Common.{◌≡◌, ℕ, zero, suc, ◌+◌, ◌<◌, ◌≤◌, true, false, cond, List, [], ◌∷◌, ◌++◌, map, length, take, drop, ℤ, Some, None, Option, sym, refl, ap, ◌∙◌, subst, append_assoc, arith, length-append, take_all}
 use Rattle.std.specs.List.{slice_get}
 use Rattle.std.proofs.lemmas.List.{set_at}
 use Rattle.std.proofs.lemmas.Bool.{eq-eqb, ne_eqb}
 use Rattle.store.specs.Puts.{applied, puts}
-use Rattle.items.specs.Items.{Item, Lawful, AllLawful, words, halfs, jumps, distance_of}
+use Rattle.items.specs.Items.{Item, Lawful, AllLawful, words, halfs, jumps}
 use Rattle.items.specs.Pairs.{register_ok, makeable, upper, lower, pair, held_at}
 use Rattle.items.proofs.Items.{item_laws}
 use Rattle.items.proofs.Constants.{pair_laws}

@@ -1,6 +1,6 @@
 -- The listing of a program's history: its items in order, its labels with their places, its jumps with place and label, its slots with place, register and value. It is worked out from each call's arguments and
 -- whether the call was taken, and from nothing that the program records. Assumes nothing.
-use Rattle.std.specs.Prelude.{ℕ, zero, suc, ◌+◌, Bool, true, false, cond, List, [], ◌∷◌, ◌++◌, map, length, drop, ℤ, pos, negsuc, Some, None, Ok, Err, Option, ◌==◌, nat_le}
+use Rattle.std.specs.Prelude.{ℕ, zero, suc, ◌+◌, cond, List, [], ◌∷◌, ◌++◌, map, length, drop, ℤ, pos, negsuc, Some, None, Ok, Err, Option, ◌==◌, nat_le}
 use Rattle.std.specs.List.{slice_get}
 use Rattle.records.specs.Records.{place_of}
 use Rattle.items.specs.Items.{Item, item_of, words, halfs, jumps, aimed_at}

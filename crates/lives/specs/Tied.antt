@@ -1,12 +1,12 @@
 -- How counts, book and store stand for a listing. Assumes nothing.
-use Rattle.std.specs.Prelude.{◌≡◌, ℕ, ◌+◌, ◌<◌, ◌≤◌, true, false, List, [], ◌∷◌, map, length, take, ℤ, Some}
+use Rattle.std.specs.Prelude.{◌≡◌, ℕ, ◌+◌, ◌≤◌, true, false, List, [], ◌∷◌, map, length, take, ℤ, Some}
 use Rattle.records.specs.declared.counts.Counts.{Counts}
 use Rattle.records.specs.declared.book.Book.{Book}
 use Rattle.records.specs.Records.{place_of, labels_in, jumps_in, slots_in}
 use Rattle.items.specs.Items.{Item, Lawful, words, halfs, jumps, distance_of, distance}
 use Rattle.items.specs.Pairs.{register_ok, makeable, upper, lower}
 use Rattle.lives.specs.declared.types.Entry.{Entry}
-use Rattle.lives.specs.Listing.{Listing, Slot, Mode, free, trying, closed, Stage, end, spot}
+use Rattle.lives.specs.Listing.{Listing, Slot, free, trying, closed, end, spot}
 use Rattle.lives.specs.Life.{Run, Starts}
 
 -- Jumps and slots stand among the items, in their order, at their places, the items beginning at a place. What is asked of a jump's distance is a parameter.

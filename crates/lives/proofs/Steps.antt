@@ -1,5 +1,5 @@
 -- One call more of a life: open, inside a try, and which calls a state does not take. Assumes nothing.
-use Rattle.std.proofs.Common.{◌≡◌, ℕ, ◌+◌, ◌<◌, ◌≤◌, ◌⊎◌, List, [], ◌∷◌, ◌++◌, map, length, get_or, take, set, ℤ, Ok, Err, sym, refl, ap, ◌∙◌, subst, inl, inr, arith, take_all, Bor}
+use Rattle.std.proofs.Common.{◌≡◌, ℕ, ◌+◌, ◌<◌, ◌≤◌, ◌⊎◌, List, [], ◌∷◌, ◌++◌, map, length, get_or, take, set, ℤ, Ok, Err, sym, refl, ap, ◌∙◌, subst, inl, inr, take_all, Bor}
 use Rattle.std.proofs.lemmas.List.{take_more_set, map-set, get_or-map, set-get_or}
 use Rattle.store.specs.Answers.{when}
 use Rattle.store.specs.Puts.{applied}
@@ -9,14 +9,14 @@ use Rattle.records.specs.Records.{none}
 use Rattle.changing.specs.declared.edits.Edit.{Edit}
 use Rattle.lives.specs.declared.types.Deed.{Deed}
 use Rattle.lives.specs.declared.types.Answer.{Answer}
-use Rattle.lives.specs.declared.types.Answer.TheVariants.{Taken, Held, Refused, OutOfState}
+use Rattle.lives.specs.declared.types.Answer.TheVariants.{Taken, Refused, OutOfState}
 use Rattle.lives.specs.declared.types.Entry.{Entry}
 use Rattle.lives.specs.declared.types.Call.{Call}
 use Rattle.lives.specs.declared.types.Call.TheVariants.{Do, Try, Keep, GiveUp, Seal, Change, Value}
 use Rattle.lives.specs.Deeds.{Verdict, told, answered, counts_by, book_by, puts_by}
-use Rattle.lives.specs.Listing.{Listing, Mode, Stage, free, trying, closed, empty, judged, listed}
+use Rattle.lives.specs.Listing.{Listing, Stage, free, trying, closed, empty, judged, listed}
 use Rattle.lives.specs.Life.{Run, made, then, call_of}
-use Rattle.lives.specs.Tied.{Tied, OpenAt, TryAt, SealedAt}
+use Rattle.lives.specs.Tied.{OpenAt, TryAt, SealedAt}
 use Rattle.lives.proofs.Keeps.{due-is, deed_tied, deed_beyond, deed_before, deed_saved, deed_over, over_self, promised, bare}
 
 -- a fact of three things, at three equal to them

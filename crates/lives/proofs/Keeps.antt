@@ -1,5 +1,5 @@
 -- What each call of an open program keeps. Assumes nothing.
-use Rattle.std.proofs.Common.{◌≡◌, ℕ, zero, suc, ◌+◌, ◌<◌, ◌≤◌, Bool, true, false, cond, ltb, leb, List, [], ◌∷◌, ◌++◌, map, length, take, drop, set, ℤ, pos, Some, None, Ok, Err, Option, Result, sym, refl, ap, ◌∙◌, subst, append_assoc, append-nil, arith, length-append, length-set, take_all}
+use Rattle.std.proofs.Common.{◌≡◌, ℕ, suc, ◌+◌, ◌<◌, ◌≤◌, Bool, true, false, cond, ltb, leb, List, [], ◌∷◌, ◌++◌, map, length, take, drop, set, ℤ, pos, Some, None, Ok, Err, Option, Result, sym, refl, ap, ◌∙◌, subst, append_assoc, append-nil, arith, length-append, length-set, take_all}
 use lib.Seq.{take-append-le}
 use Rattle.std.proofs.lemmas.List.{drop-set-lt, take_more_set, take-set-le, take-append-drop, map_push, length_push}
 use Rattle.std.proofs.lemmas.Bool.{leb-true, ltb-true}
@@ -17,13 +17,13 @@ use Rattle.items.specs.Items.{Item, Lawful, item_of, words, halfs, jumps}
 use Rattle.items.specs.Pairs.{register_ok, makeable, upper, lower, pair}
 use Rattle.items.proofs.Items.{item_laws}
 use Rattle.calls.specs.declared.jump.JumpTo.{JumpTo}
-use Rattle.calls.specs.Calls.{emitted, constanted, jumped, after_fault, with_label, known_label, bound, bound_as, bound_at, jump_item, label_number, spaced}
+use Rattle.calls.specs.Calls.{emitted, constanted, jumped, after_fault, with_label, known_label, bound, bound_as, bound_at, jump_item, label_number}
 use Rattle.lives.specs.declared.types.Deed.{Deed}
 use Rattle.lives.specs.declared.types.Deed.TheVariants.{Emit, Constant, Jump, Bind}
 use Rattle.lives.specs.declared.types.Fault.{Fault}
 use Rattle.lives.specs.declared.types.Fault.TheVariants as life
-use Rattle.lives.specs.Deeds.{Verdict, raised, answered, counts_by, book_by, words_by, cells_by}
-use Rattle.lives.specs.Listing.{Listing, Slot, Mode, Stage, end, empty, spot, due, listed}
+use Rattle.lives.specs.Deeds.{raised, answered, counts_by, book_by, words_by, cells_by}
+use Rattle.lives.specs.Listing.{Listing, Mode, end, empty, spot, due, listed}
 use Rattle.lives.specs.Life.{Promise, OnceSealed, Starts, EachHolds}
 use Rattle.lives.specs.Tied.{Tied, Stands, Any, AllStart, Over}
 use Rattle.lives.specs.Tied as tied
