@@ -6,7 +6,7 @@ usage: respell.py [FOLDER]      the top of a checkout in which port.py has run; 
 Words and lemmas are in snake case (a dash stays between two names of which a lemma speaks), facts and records in camel case.
 Whole names turn, in the definitions, the proofs, the clauses and the must-fail edits. In a function's Answers a name that
 Rattle makes stays: the first behind goal, c, w, l and g, and the second behind args, initial, fn, new, auto, ranges.
-Functions of src/, exported names, strings, inputs and outputs hold no name of the table.
+Comments and strings stay; functions of src/, exported names, inputs and outputs hold no name of the table.
 """
 
 import os
@@ -19,7 +19,8 @@ CHAIN = re.compile(rf"{NAME}(?:\.{NAME})*")
 HEADS = {"goal", "c", "w", "l", "g"}
 HOLDERS = {"args", "initial", "fn", "new", "auto", "ranges"}
 MADE = re.compile(r"/proofs/.*/(Answers|Invariants|Proof)\.antt$")
-STRING = re.compile(r'"(?:[^"\\\n]|\\.)*"')
+# text in quotes, and comments
+QUIET = re.compile(r'"(?:[^"\\\n]|\\.)*"|//[^\n]*|(?<!\S)--[^\n]*')
 
 
 def names():
@@ -39,10 +40,10 @@ def turned(chain, table, made):
 
 def respelled(text, table, made):
     parts, at = [], 0
-    for quoted in STRING.finditer(text):
-        parts.append(CHAIN.sub(lambda m: turned(m[0], table, made), text[at : quoted.start()]))
-        parts.append(quoted[0])
-        at = quoted.end()
+    for quiet in QUIET.finditer(text):
+        parts.append(CHAIN.sub(lambda m: turned(m[0], table, made), text[at : quiet.start()]))
+        parts.append(quiet[0])
+        at = quiet.end()
     parts.append(CHAIN.sub(lambda m: turned(m[0], table, made), text[at:]))
     return "".join(parts)
 
