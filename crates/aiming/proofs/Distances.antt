@@ -20,15 +20,15 @@ use Rattle.reading.proofs.Apart.{in_table}
 
 -- ---- every jump of the table has an even signed constant, as wide as its format has it
 
-abbrev is-distance : ℕ → Number → Bool
-is-distance w NoNumber = false
-is-distance w (Signed k u All) = eqb k w && eqb u 2
-is-distance w (Signed k u NonZero) = false
-is-distance w (Signed k u GroupSize) = false
-is-distance w (Unsigned k u a) = false
+abbrev is_distance : ℕ → Number → Bool
+is_distance w NoNumber = false
+is_distance w (Signed k u All) = eqb k w && eqb u 2
+is_distance w (Signed k u NonZero) = false
+is_distance w (Signed k u GroupSize) = false
+is_distance w (Unsigned k u a) = false
 
 abbrev jump_test : Form → Bool
-jump_test r = cond (reaches r.kind) (is-distance (span (layout r.kind) N) r.n) true
+jump_test r = cond (reaches r.kind) (is_distance (span (layout r.kind) N) r.n) true
 
 all_distances : every (λ (e : Entry). jump_test e.form) operations ≡ true
 unfolding operations
@@ -40,7 +40,7 @@ is a b t = grind (arith, nat_tests)
 no : (P : Type 0) → false ≡ true → P
 no P t = absurd (let z : ◌≡◌ {A = ℕ} 0 1 = cc in omega arith)
 
-distance_is : (w : ℕ) (c : Number) → is-distance w c ≡ true → c ≡ Signed w 2 All
+distance_is : (w : ℕ) (c : Number) → is_distance w c ≡ true → c ≡ Signed w 2 All
 distance_is w NoNumber t = no _ t
 distance_is w (Signed k u All) t = let z = andb (eqb k w) (eqb u 2) t in ap₂ (λ x y. Signed x y All) (is k w z.0) (is u 2 z.1)
 distance_is w (Signed k u NonZero) t = no _ t
@@ -51,7 +51,7 @@ pub jump_number : (k : ℕ) → k < count → reaches (form_at k).kind ≡ true 
 jump_number k h j =
     let r = form_at k in
     let s = span (layout r.kind) N in
-    distance_is s r.n (ap (λ b. cond b (is-distance s r.n) true) (sym j) ∙ every_at (λ (e : Entry). jump_test e.form) operations no_entry all_distances k (in_table h))
+    distance_is s r.n (ap (λ b. cond b (is_distance s r.n) true) (sym j) ∙ every_at (λ (e : Entry). jump_test e.form) operations no_entry all_distances k (in_table h))
 
 -- ---- which numbers are distances, and their bits
 
@@ -109,8 +109,8 @@ pub distances_Cj : Distances (Signed 11 2 All) (negsuc 2047) (pos 2046) (halved 
 distances_Cj = distances 11 1024 (omega arith) refl refl refl
 
 -- in a format's jumps the constant is such a distance
-pub reach-exactly : (K : Kind) (least greatest : ℤ) (aim : ℤ → ℕ) → reaches K ≡ true → Distances (Signed (span (layout K) N) 2 All) least greatest aim → Reaches K (InReach least greatest)
-reach-exactly K least greatest aim j D k z h p =
+pub reach_exactly : (K : Kind) (least greatest : ℤ) (aim : ℤ → ℕ) → reaches K ≡ true → Distances (Signed (span (layout K) N) 2 All) least greatest aim → Reaches K (InReach least greatest)
+reach_exactly K least greatest aim j D k z h p =
     let n : (form_at k).n ≡ Signed (span (layout K) N) 2 All = jump_number k h (ap reaches p ∙ j) ∙ ap (λ K. Signed (span (layout K) N) 2 All) p in
     let E = subst (λ c. Distances c least greatest aim) (sym n) D in
     (E.near z, E.ok z)

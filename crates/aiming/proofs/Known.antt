@@ -1,15 +1,15 @@
 -- The instruction that a word is.
 use Rattle.std.proofs.Common.{◌≡◌, ℕ, zero, suc, ◌<◌, ◌≤◌, Bool, true, false, cond, eqb, Some, Option, sym, refl, ap, ◌∙◌, subst, ap₂, not-suc-le-zero, arith}
 use Rattle.std.proofs.lemmas.Bool.Decides.{nat_tests}
-use Rattle.bits.proofs.Layouts.{picks-only}
+use Rattle.bits.proofs.Layouts.{picks_only}
 use Rattle.formats.specs.Layouts.{layout}
-use Rattle.formats.proofs.Sound.{layout-sound}
+use Rattle.formats.proofs.Sound.{layout_sound}
 use Rattle.operations.specs.Manual.{form_at, count}
 use Rattle.instructions.specs.declared.fields.Fields.{Fields}
 use Rattle.instructions.specs.Faults.{lawful}
 use Rattle.instructions.specs.Words.{raw, word_of}
-use Rattle.instructions.proofs.Checks.{andb, and-true}
-use Rattle.instructions.proofs.Forms.{form_agrees, raw-fits}
+use Rattle.instructions.proofs.Checks.{andb, and_true}
+use Rattle.instructions.proofs.Forms.{form_agrees, raw_fits}
 use Rattle.reading.specs.Fields.{fields_of}
 use Rattle.reading.proofs.Backs.{fields_back}
 use Rattle.reading.proofs.Apart.{unconfused}
@@ -26,12 +26,12 @@ found : (w k : ℕ) (f : Fields) → k < count → lawful (form_at k) f ≡ true
 found w k f h t e =
     let r = form_at k in
     let a = form_agrees k h in
-    ap (fields_of r) (picks-only (layout r.kind) (raw r f) w (layout-sound r.kind) (raw-fits r f a t) e) ∙ fields_back r f a t
+    ap (fields_of r) (picks_only (layout r.kind) (raw r f) w (layout_sound r.kind) (raw_fits r f a t) e) ∙ fields_back r f a t
 
 is_one_yes : (w k : ℕ) (f : Fields) → k < count → lawful (form_at k) f ≡ true → word_of (form_at k) f ≡ w → is_one k w ≡ true
 is_one_yes w k f h t e =
     let p = found w k f h t e in
-    and-true (lawful (form_at k) (found_in k w)) (eqb (word_of (form_at k) (found_in k w)) w) (ap (lawful (form_at k)) p ∙ t) (eqb_true (word_of (form_at k) (found_in k w)) w (ap (word_of (form_at k)) p ∙ e))
+    and_true (lawful (form_at k) (found_in k w)) (eqb (word_of (form_at k) (found_in k w)) w) (ap (lawful (form_at k)) p ∙ t) (eqb_true (word_of (form_at k) (found_in k w)) w (ap (word_of (form_at k)) p ∙ e))
 
 -- what the test says
 pub record One (w k : ℕ) (f : Fields) : Type 0 where
@@ -52,10 +52,10 @@ some_same {x} {y} {f} {g} e =
     (ap (λ t. t.0) p, ap (λ t. t.1) p)
 
 -- among the first n operations
-among-at : (n w k : ℕ) (f : Fields) → n ≤ count → k < n → k < count → lawful (form_at k) f ≡ true → word_of (form_at k) f ≡ w → among n w ≡ Some (k, f)
+among_at : (n w k : ℕ) (f : Fields) → n ≤ count → k < n → k < count → lawful (form_at k) f ≡ true → word_of (form_at k) f ≡ w → among n w ≡ Some (k, f)
 unfolding among
-among-at zero w k f hn hk h t e = absurd (not-suc-le-zero hk)
-among-at (suc j) w k f hn hk h t e = go (λ l. among-at j w k f (omega arith) l h t e) (is_one j w) refl
+among_at zero w k f hn hk h t e = absurd (not-suc-le-zero hk)
+among_at (suc j) w k f hn hk h t e = go (λ l. among_at j w k f (omega arith) l h t e) (is_one j w) refl
   where
     go : (k < j → among j w ≡ Some (k, f)) → (b : Bool) → is_one j w ≡ b → cond b (Some (j, found_in j w)) (among j w) ≡ Some (k, f)
     go below true y =
@@ -66,10 +66,10 @@ among-at (suc j) w k f hn hk h t e = go (λ l. among-at j w k f (omega arith) l 
         let n : k ≡ j → ⊥ = λ p. not_both ⊥ (is_one j w) (subst (λ x. is_one x w ≡ true) p (is_one_yes w k f h t e)) y in
         below (omega (arith, n))
 
-among-only : (n w k : ℕ) (f : Fields) → n ≤ count → among n w ≡ Some (k, f) → (k < count) × One w k f
+among_only : (n w k : ℕ) (f : Fields) → n ≤ count → among n w ≡ Some (k, f) → (k < count) × One w k f
 unfolding among
-among-only zero w k f hn e = absurd (let z : ◌≡◌ {A = ℕ} 0 1 = cc in omega arith)
-among-only (suc j) w k f hn e = go (among-only j w k f (omega arith)) (is_one j w) refl e
+among_only zero w k f hn e = absurd (let z : ◌≡◌ {A = ℕ} 0 1 = cc in omega arith)
+among_only (suc j) w k f hn e = go (among_only j w k f (omega arith)) (is_one j w) refl e
   where
     go : (among j w ≡ Some (k, f) → (k < count) × One w k f) → (b : Bool) → is_one j w ≡ b → cond b (Some (j, found_in j w)) (among j w) ≡ Some (k, f) → (k < count) × One w k f
     go below true y e =
@@ -79,15 +79,15 @@ among-only (suc j) w k f hn e = go (among-only j w k f (omega arith)) (is_one j 
 
 pub known : (w k : ℕ) (f : Fields) → k < count → lawful (form_at k) f ≡ true → word_of (form_at k) f ≡ w → instruction_of w ≡ Some (k, f)
 unfolding instruction_of
-known w k f h t e = among-at count w k f (omega arith) h h t e
+known w k f h t e = among_at count w k f (omega arith) h h t e
 
-pub only-known : (w k : ℕ) (f : Fields) → instruction_of w ≡ Some (k, f) → (k < count) × One w k f
+pub only_known : (w k : ℕ) (f : Fields) → instruction_of w ≡ Some (k, f) → (k < count) × One w k f
 unfolding instruction_of
-only-known w k f e = among-only count w k f (omega arith) e
+only_known w k f e = among_only count w k f (omega arith) e
 
-pub instruction_of-exactly : InstructionOfExactly
-instruction_of-exactly =
+pub instruction_of_exactly : InstructionOfExactly
+instruction_of_exactly =
     record {
-      exactly = λ w k f h t. ((λ e. (only-known w k f e).1.word), known w k f h t);
-      lawful_only = λ w k f e. ((only-known w k f e).0, (only-known w k f e).1.ok);
+      exactly = λ w k f h t. ((λ e. (only_known w k f e).1.word), known w k f h t);
+      lawful_only = λ w k f e. ((only_known w k f e).0, (only_known w k f e).1.ok);
     }

@@ -12,8 +12,8 @@ use Rattle.instructions.specs.declared.instruction.Instruction.{Instruction}
 use Rattle.instructions.specs.Faults.{lawful, number_ok, reaches}
 use Rattle.instructions.specs.Laws.{InRange, TakesNumber}
 use Rattle.instructions.specs.Words.{word_of, halves, halfwords_of}
-use Rattle.instructions.proofs.Lawfuls.{lawful-exactly}
-use Rattle.instructions.proofs.Sizes.{low-bits_tell, one_small}
+use Rattle.instructions.proofs.Lawfuls.{lawful_exactly}
+use Rattle.instructions.proofs.Sizes.{low_bits_tell, one_small}
 use Rattle.reading.specs.Places.{word_at}
 use Rattle.aiming.specs.Standing.{instruction_of, reaching_only, jump_in, jump_at, at_distance, aimed, worded}
 use Rattle.aiming.proofs.Distances.{jump_number}
@@ -22,13 +22,13 @@ distance_in : (k : ℕ) (z : ℤ) → number_ok (Signed k 2 All) z ≡ true → 
 distance_in k (pos n) t = (grind (arith, nat_tests), grind (arith, nat_tests))
 distance_in k (negsuc n) t = (grind (arith, nat_tests), grind (arith, nat_tests))
 
-pub aimed-lawful : (k : ℕ) (f : Fields) (z : ℤ) → k < count → reaches (form_at k).kind ≡ true → lawful (form_at k) f ≡ true → number_ok (form_at k).n z ≡ true → lawful (form_at k) (at_distance f z) ≡ true
-aimed-lawful k f z h j t o =
+pub aimed_lawful : (k : ℕ) (f : Fields) (z : ℤ) → k < count → reaches (form_at k).kind ≡ true → lawful (form_at k) f ≡ true → number_ok (form_at k).n z ≡ true → lawful (form_at k) (at_distance f z) ≡ true
+aimed_lawful k f z h j t o =
     let r = form_at k in
-    let l = (lawful-exactly r f).0 t in
+    let l = (lawful_exactly r f).0 t in
     let s = span (layout r.kind) N in
     let n = jump_number k h j in
-    (lawful-exactly r (at_distance f z)).1
+    (lawful_exactly r (at_distance f z)).1
     (record {
       d_in = l.d_in;
       a_in = l.a_in;
@@ -56,7 +56,7 @@ word_small k f w h t e n = one_small (instruction k f h t) w (sym e) n
 -- its halfwords, by the word alone
 pub halfwords_by : (k : ℕ) (f : Fields) (w : ℕ) → k < count → word_of (form_at k) f ≡ w → halfwords_of k f ≡ halves (cond (eqb (w % 4) 3) 2 1) w
 halfwords_by k f w h e =
-    ap (λ n. halves n (word_of (form_at k) f)) (low-bits_tell k f h) ∙ ap (λ x. halves (cond (eqb (x % 4) 3) 2 1) x) e
+    ap (λ n. halves n (word_of (form_at k) f)) (low_bits_tell k f h) ∙ ap (λ x. halves (cond (eqb (x % 4) 3) 2 1) x) e
 
 -- ---- a word that was answered for another distance
 
@@ -65,21 +65,21 @@ pub record Aimed (k : ℕ) (f : Fields) (z : ℤ) (w : ℕ) : Type 0 where
   pub word : word_of (form_at k) (at_distance f z) ≡ w
   pub is : aimed (reaching_only (Some (k, f))) z ≡ Some (k, at_distance f z)
 
-some-none : (P : Type 0) (w : ℕ) → ◌≡◌ {A = Option ℕ} (Some w) None → P
-some-none P w e = absurd (let z : ◌≡◌ {A = ℕ} 0 1 = cc in omega arith)
+some_none : (P : Type 0) (w : ℕ) → ◌≡◌ {A = Option ℕ} (Some w) None → P
+some_none P w e = absurd (let z : ◌≡◌ {A = ℕ} 0 1 = cc in omega arith)
 
 some_is : (w x : ℕ) → ◌≡◌ {A = Option ℕ} (Some w) (Some x) → x ≡ w
 some_is w x e = cc
 
-pub aimed-some : (k : ℕ) (f : Fields) (z : ℤ) (w : ℕ) → k < count → lawful (form_at k) f ≡ true → Some w ≡ worded (aimed (reaching_only (Some (k, f))) z) → Aimed k f z w
-aimed-some k f z w h t e = go (reaches (form_at k).kind) (number_ok (form_at k).n z) refl refl e
+pub aimed_some : (k : ℕ) (f : Fields) (z : ℤ) (w : ℕ) → k < count → lawful (form_at k) f ≡ true → Some w ≡ worded (aimed (reaching_only (Some (k, f))) z) → Aimed k f z w
+aimed_some k f z w h t e = go (reaches (form_at k).kind) (number_ok (form_at k).n z) refl refl e
   where
     go : (b c : Bool) → reaches (form_at k).kind ≡ b → number_ok (form_at k).n z ≡ c → Some w ≡ worded (aimed (cond b (Some (k, f)) None) z) → Aimed k f z w
-    go false c p q e = some-none (Aimed k f z w) w e
-    go true false p q e = some-none (Aimed k f z w) w (e ∙ ap (λ c. worded (cond c (Some (k, at_distance f z)) None)) q)
+    go false c p q e = some_none (Aimed k f z w) w e
+    go true false p q e = some_none (Aimed k f z w) w (e ∙ ap (λ c. worded (cond c (Some (k, at_distance f z)) None)) q)
     go true true p q e =
         record {
-          ok = aimed-lawful k f z h p t q;
+          ok = aimed_lawful k f z h p t q;
           word = some_is w (word_of (form_at k) (at_distance f z)) (e ∙ ap (λ c. worded (cond c (Some (k, at_distance f z)) None)) q);
           is = ap (λ b. aimed (cond b (Some (k, f)) None) z) p ∙ ap (λ c. cond c (Some (k, at_distance f z)) None) q;
         }
@@ -93,8 +93,8 @@ reaching_once (Some i) = go (reaches (form_at i.0).kind) refl
     go true e = ap (λ b. cond b (Some i) None) e
     go false e = refl
 
-pub jump-once : (cells : List ℕ) (used p : ℕ) → reaching_only (jump_at cells used p) ≡ jump_at cells used p
-jump-once cells used p = go (word_at (take used cells) p)
+pub jump_once : (cells : List ℕ) (used p : ℕ) → reaching_only (jump_at cells used p) ≡ jump_at cells used p
+jump_once cells used p = go (word_at (take used cells) p)
   where
     go : (o : Option ℕ) → reaching_only (jump_in o) ≡ jump_in o
     go None = refl

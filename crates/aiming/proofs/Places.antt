@@ -30,16 +30,16 @@ there (y ∷ xs) (suc i) x e = let h = there xs i x e in omega arith
 
 -- ---- puts leave the other places
 
-pub nth_set-apart : (xs : List ℕ) (i v j : ℕ) → (j ≡ i → ⊥) → slice_get (set xs i v) j ≡ slice_get xs j
-nth_set-apart [] i v j n = refl
-nth_set-apart (x ∷ xs) zero v zero n = absurd (n refl)
-nth_set-apart (x ∷ xs) zero v (suc j) n = refl
-nth_set-apart (x ∷ xs) (suc i) v zero n = refl
-nth_set-apart (x ∷ xs) (suc i) v (suc j) n = nth_set-apart xs i v j (λ e. n (ap suc e))
+pub nth_set_apart : (xs : List ℕ) (i v j : ℕ) → (j ≡ i → ⊥) → slice_get (set xs i v) j ≡ slice_get xs j
+nth_set_apart [] i v j n = refl
+nth_set_apart (x ∷ xs) zero v zero n = absurd (n refl)
+nth_set_apart (x ∷ xs) zero v (suc j) n = refl
+nth_set_apart (x ∷ xs) (suc i) v zero n = refl
+nth_set_apart (x ∷ xs) (suc i) v (suc j) n = nth_set_apart xs i v j (λ e. n (ap suc e))
 
-pub nth_puts-apart : (p : ℕ) (hs xs : List ℕ) (j : ℕ) → (j < p) ⊎ (p + length hs ≤ j) → slice_get (applied (puts p hs) xs) j ≡ slice_get xs j
-nth_puts-apart p [] xs j a = refl
-nth_puts-apart p (h ∷ hs) xs j (inl a) =
-    nth_puts-apart (suc p) hs (set xs p h) j (inl (omega arith)) ∙ nth_set-apart xs p h j (λ e. omega arith)
-nth_puts-apart p (h ∷ hs) xs j (inr a) =
-    nth_puts-apart (suc p) hs (set xs p h) j (inr (omega arith)) ∙ nth_set-apart xs p h j (λ e. omega arith)
+pub nth_puts_apart : (p : ℕ) (hs xs : List ℕ) (j : ℕ) → (j < p) ⊎ (p + length hs ≤ j) → slice_get (applied (puts p hs) xs) j ≡ slice_get xs j
+nth_puts_apart p [] xs j a = refl
+nth_puts_apart p (h ∷ hs) xs j (inl a) =
+    nth_puts_apart (suc p) hs (set xs p h) j (inl (omega arith)) ∙ nth_set_apart xs p h j (λ e. omega arith)
+nth_puts_apart p (h ∷ hs) xs j (inr a) =
+    nth_puts_apart (suc p) hs (set xs p h) j (inr (omega arith)) ∙ nth_set_apart xs p h j (λ e. omega arith)

@@ -12,29 +12,29 @@ use Rattle.bits.specs.declared.part.Part.{Part}
 use Rattle.bits.specs.declared.part.Part.TheVariants.{Fixed, Slice}
 use Rattle.bits.specs.Layout.{value_at, index, same, code, width, value, total, ones, taken, any, fixed, word, mask, bits, bits_in, pick, apart, from, reach, span, tidy, sound, Fit, picks}
 
-pub value-lt : (p : Part) (v : Values) → value p v < 2 ^ width p
-value-lt (Fixed w c) v = mod-lt c (pow_pos w)
-value-lt (Slice f l w) v = mod-lt (value_at f v / 2 ^ l) (pow_pos w)
+pub value_lt : (p : Part) (v : Values) → value p v < 2 ^ width p
+value_lt (Fixed w c) v = mod-lt c (pow_pos w)
+value_lt (Slice f l w) v = mod-lt (value_at f v / 2 ^ l) (pow_pos w)
 
 cond_lt : (b : Bool) (x w : ℕ) → x < 2 ^ w → cond b x 0 < 2 ^ w
 cond_lt true x w h = h
 cond_lt false x w h = pow_pos w
 
-part-and : (b : Bool) (v w : ℕ) → v < 2 ^ w → bit_and v (cond b (2 ^ w - 1) 0) ≡ cond b v 0
-part-and true v w h = and_mask v w ∙ mod-eq_of_lt h
-part-and false v w h = and_zero_r v
+part_and : (b : Bool) (v w : ℕ) → v < 2 ^ w → bit_and v (cond b (2 ^ w - 1) 0) ≡ cond b v 0
+part_and true v w h = and_mask v w ∙ mod-eq_of_lt h
+part_and false v w h = and_zero_r v
 
 -- the word under the ones of q
 pub under : (q : Part → Bool) (s : List Part) (v : Values) → bit_and (word s v) (ones q s) ≡ taken q s v
 under q [] v = refl
 under q (p ∷ s) v =
-    and_block (width p) (word s v) (ones q s) (value p v) (cond (q p) (2 ^ width p - 1) 0) (value-lt p v) (cond_lt (q p) (2 ^ width p - 1) (width p) (ones_lt (width p)))
-    ∙ ap₂ (λ (x y : ℕ). x * 2 ^ width p + y) (under q s v) (part-and (q p) (value p v) (width p) (value-lt p v))
+    and_block (width p) (word s v) (ones q s) (value p v) (cond (q p) (2 ^ width p - 1) 0) (value_lt p v) (cond_lt (q p) (2 ^ width p - 1) (width p) (ones_lt (width p)))
+    ∙ ap₂ (λ (x y : ℕ). x * 2 ^ width p + y) (under q s v) (part_and (q p) (value p v) (width p) (value_lt p v))
 
 pub word_lt : (s : List Part) (v : Values) → word s v < 2 ^ total s
 word_lt [] v = pow_pos 0
 word_lt (p ∷ s) v =
-    subst (λ n. word s v * 2 ^ width p + value p v < n) (sym (pow-add 2 (total s) (width p))) (digits_lt (word_lt s v) (value-lt p v))
+    subst (λ n. word s v * 2 ^ width p + value p v < n) (sym (pow-add 2 (total s) (width p))) (digits_lt (word_lt s v) (value_lt p v))
 
 -- ---- equal at the parts that q takes: equal there, part by part
 abbrev Alike : (Part → Bool) → List Part → Values → Values → Type 0
@@ -44,8 +44,8 @@ Alike q (p ∷ s) v u = (q p ≡ true → value p v ≡ value p u) × Alike q s 
 alike : (q : Part → Bool) (s : List Part) (v u : Values) → taken q s v ≡ taken q s u → Alike q s v u
 alike q [] v u e = tt
 alike q (p ∷ s) v u e =
-    let hv = cond_lt (q p) (value p v) (width p) (value-lt p v) in
-    let hu = cond_lt (q p) (value p u) (width p) (value-lt p u) in (
+    let hv = cond_lt (q p) (value p v) (width p) (value_lt p v) in
+    let hu = cond_lt (q p) (value p u) (width p) (value_lt p u) in (
       (λ t. subst (λ b. cond b (value p v) 0 ≡ cond b (value p u) 0) t (sym (low (taken q s v) (width p) hv) ∙ ap (λ x. x % 2 ^ width p) e ∙ low (taken q s u) (width p) hu)),
       alike q s v u (sym (high (taken q s v) (width p) hv) ∙ ap (λ x. x / 2 ^ width p) e ∙ high (taken q s u) (width p) hu),
     )
@@ -82,11 +82,11 @@ numbered-index Opcode = refl
 numbered-index Funct3 = refl
 numbered-index Funct = refl
 
-pub same-is : (f g : Field) → same f g ≡ true → f ≡ g
-same-is f g t = sym (numbered-index f) ∙ ap numbered (equal (index f) (index g) t) ∙ numbered-index g
+pub same_is : (f g : Field) → same f g ≡ true → f ≡ g
+same_is f g t = sym (numbered-index f) ∙ ap numbered (equal (index f) (index g) t) ∙ numbered-index g
 
 both : (g f : Field) (l a : ℕ) → (same g f && eqb l a) ≡ true → (g ≡ f) × (l ≡ a)
-both g f l a t = let z = andb (same g f) (eqb l a) t in (same-is g f z.0, equal l a z.1)
+both g f l a t = let z = andb (same g f) (eqb l a) t in (same_is g f z.0, equal l a z.1)
 
 module _ (q : Part → Bool) (v u : Values) (f : Field) (all : (l w : ℕ) → q (Slice f l w) ≡ true) where
   piece : (s : List Part) (a : ℕ) → Alike q s v u → value_at f v / 2 ^ a % 2 ^ from s f a ≡ value_at f u / 2 ^ a % 2 ^ from s f a
@@ -224,23 +224,23 @@ pub picked : (s : List Part) (x : ℕ) → sound s ≡ true → Stands s (λ f. 
 picked s x h = stands s s (λ f. 0) x h (clear_none s)
 
 -- and they are no wider than the layout has them
-picks-lt : (t s : List Part) (a : ℕ) (f : Field) (x : ℕ) → tidy t s ≡ true → a < 2 ^ span t f → pick a s f x < 2 ^ span t f
-picks-lt t [] a f x h l = l
-picks-lt t (Fixed w c ∷ s) a f x h l = picks-lt t s (bit_or a 0) f (x / 2 ^ w) h (or_lt (span t f) a 0 l (pow_pos (span t f)))
-picks-lt t (Slice g k w ∷ s) a f x h l =
+picks_lt : (t s : List Part) (a : ℕ) (f : Field) (x : ℕ) → tidy t s ≡ true → a < 2 ^ span t f → pick a s f x < 2 ^ span t f
+picks_lt t [] a f x h l = l
+picks_lt t (Fixed w c ∷ s) a f x h l = picks_lt t s (bit_or a 0) f (x / 2 ^ w) h (or_lt (span t f) a 0 l (pow_pos (span t f)))
+picks_lt t (Slice g k w ∷ s) a f x h l =
     let z = andb (leb (w + k) (span t g)) (apart s g k w && tidy t s) h in
     let o = andb (apart s g k w) (tidy t s) z.1 in
-    picks-lt t s (bit_or a (bits_in f (Slice g k w) x)) f (x / 2 ^ w) o.1
+    picks_lt t s (bit_or a (bits_in f (Slice g k w) x)) f (x / 2 ^ w) o.1
     (or_lt (span t f) a (bits_in f (Slice g k w) x) l
     (by_cond (λ n. n < 2 ^ span t f) (same g f) (x % 2 ^ w * 2 ^ k) 0
-    (λ e. lt_of_lt_of_le (shl_lt w k (mod-lt x (pow_pos w))) (pow_mono (subst (λ n. w + k ≤ span t n) (same-is g f e) (below z.0))))
+    (λ e. lt_of_lt_of_le (shl_lt w k (mod-lt x (pow_pos w))) (pow_mono (subst (λ n. w + k ≤ span t n) (same_is g f e) (below z.0))))
     (pow_pos (span t f))))
   where
     below : leb (w + k) (span t g) ≡ true → w + k ≤ span t g
     below e = grind (arith, nat_tests)
 
 pub picked_lt : (s : List Part) (f : Field) (x : ℕ) → sound s ≡ true → pick 0 s f x < 2 ^ span s f
-picked_lt s f x h = picks-lt s s 0 f x h (pow_pos (span s f))
+picked_lt s f x h = picks_lt s s 0 f x h (pow_pos (span s f))
 
 fix_low : (b : Bool) (r w v : ℕ) → r < 2 ^ w → bit_and r (cond b (2 ^ w - 1) 0) ≡ cond b v 0 → b ≡ true → v ≡ r
 fix_low true r w v h e t = sym e ∙ and_mask r w ∙ mod-eq_of_lt h
@@ -274,7 +274,7 @@ joins (p ∷ s) u y x lt e t a =
     hm = cond_lt (fixed p) (2 ^ width p - 1) (width p) (ones_lt (width p))
 
     hv : cond (fixed p) (value p u) 0 < 2 ^ width p
-    hv = cond_lt (fixed p) (value p u) (width p) (value-lt p u)
+    hv = cond_lt (fixed p) (value p u) (width p) (value_lt p u)
 
     both' : bit_and (x / 2 ^ width p) (mask s) * 2 ^ width p + bit_and (x % 2 ^ width p) (cond (fixed p) (2 ^ width p - 1) 0) ≡ bits s u * 2 ^ width p + cond (fixed p) (value p u) 0
     both' = sym (and_block (width p) (x / 2 ^ width p) (mask s) (x % 2 ^ width p) (cond (fixed p) (2 ^ width p - 1) 0) hr hm)
@@ -312,8 +312,8 @@ picks_fit s x h f = subst (λ n. n < 2 ^ span s f) (sym (picks_at s x f)) (picke
 again : (s : List Part) (v u : Values) (y : Field → ℕ) (x : ℕ) → ((f : Field) → value_at f u ≡ y f) → word s v ≡ x → Stands s y x → word s u ≡ x
 again [] v u y x a e t = e
 again (p ∷ s) v u y x a e t =
-    let lo : value p v ≡ x % 2 ^ width p = sym (digits_mod (word s v) (value-lt p v)) ∙ ap (λ n. n % 2 ^ width p) e in
-    let hi : word s v ≡ x / 2 ^ width p = sym (digits_div (word s v) (value-lt p v)) ∙ ap (λ n. n / 2 ^ width p) e in
+    let lo : value p v ≡ x % 2 ^ width p = sym (digits_mod (word s v) (value_lt p v)) ∙ ap (λ n. n % 2 ^ width p) e in
+    let hi : word s v ≡ x / 2 ^ width p = sym (digits_div (word s v) (value_lt p v)) ∙ ap (λ n. n / 2 ^ width p) e in
     ap₂ (λ (m n : ℕ). m * 2 ^ width p + n) (again s v u y (x / 2 ^ width p) a hi (rest p t)) (at p lo t) ∙ div-add-mod' x (2 ^ width p)
   where
     rest : (p : Part) → Stands (p ∷ s) y x → Stands s y (x / 2 ^ width p)
@@ -341,6 +341,6 @@ values_same v u h = λ i. record {
 }
 
 -- and the only ones that fit
-pub picks-only : (s : List Part) (v : Values) (x : ℕ) → sound s ≡ true → Fit s v → word s v ≡ x → picks s x ≡ v
-picks-only s v x h l e =
+pub picks_only : (s : List Part) (v : Values) (x : ℕ) → sound s ≡ true → Fit s v → word s v ≡ x → picks s x ≡ v
+picks_only s v x h l e =
     values_same (picks s x) v (λ f. one any (picks s x) v f (λ l w. refl) s (picks-word s v x h e ∙ sym e) (picks_fit s x h f) (l f))

@@ -12,9 +12,9 @@ twos-pos k n h = mod-eq_of_lt h
 pub twos-neg : (k n : ℕ) → n < 2 ^ k → twos k (negsuc n) ≡ 2 ^ k - suc n
 twos-neg k n h = ap (λ m. 2 ^ k - suc m) (mod-eq_of_lt h)
 
-pub twos-lt : (k : ℕ) (z : ℤ) → mag z + mag z < 2 ^ k → twos k z < 2 ^ k
-twos-lt k (pos n) h = let e = twos-pos k n (omega arith) in omega arith
-twos-lt k (negsuc n) h = let e = twos-neg k n (omega arith) in omega arith
+pub twos_lt : (k : ℕ) (z : ℤ) → mag z + mag z < 2 ^ k → twos k z < 2 ^ k
+twos_lt k (pos n) h = let e = twos-pos k n (omega arith) in omega arith
+twos_lt k (negsuc n) h = let e = twos-neg k n (omega arith) in omega arith
 
 -- the two's complement by the magnitude, below zero and from zero up
 pub twos_below : (k m : ℕ) (z : ℤ) → lt_z z (pos 0) ≡ true → mag z + mag z < 2 ^ k → m ≡ nat_abs z → 2 ^ k - m ≡ twos k z

@@ -9,20 +9,20 @@ use Rattle.bits.specs.declared.part.Part.TheVariants.{Fixed, Slice}
 use Rattle.bits.specs.Layout.{index, width, value, total, word, bits_in, pick, handy, Handy, handies, Handies}
 use Rattle.bits.proofs.Layouts.{andb, word_lt}
 
-pub handy-width : (p : Part) → Handy p → width p < 32
-handy-width (Fixed w c) h = grind (arith, nat_tests)
-handy-width (Slice f l w) h = grind (arith, nat_tests)
+pub handy_width : (p : Part) → Handy p → width p < 32
+handy_width (Fixed w c) h = grind (arith, nat_tests)
+handy_width (Slice f l w) h = grind (arith, nat_tests)
 
-pub handies-at : (s : List Part) (i : ℕ) (d : Part) → Handies s → i < length s → Handy (get_or s i d) × (total (drop (suc i) s) + width (get_or s i d) ≤ 32)
-handies-at [] i d h l = absurd (not-suc-le-zero l)
-handies-at (p ∷ s) zero d h l =
+pub handies_at : (s : List Part) (i : ℕ) (d : Part) → Handies s → i < length s → Handy (get_or s i d) × (total (drop (suc i) s) + width (get_or s i d) ≤ 32)
+handies_at [] i d h l = absurd (not-suc-le-zero l)
+handies_at (p ∷ s) zero d h l =
     let a = andb (handy p) (leb (total s + width p) 32 && handies s) h in
     let b = andb (leb (total s + width p) 32) (handies s) a.1 in
     (a.0, (let e = b.0 in grind (arith, nat_tests)))
-handies-at (p ∷ s) (suc i) d h l =
+handies_at (p ∷ s) (suc i) d h l =
     let a = andb (handy p) (leb (total s + width p) 32 && handies s) h in
     let b = andb (leb (total s + width p) 32) (handies s) a.1 in
-    handies-at s i d b.1 (le_of_suc-le-suc l)
+    handies_at s i d b.1 (le_of_suc-le-suc l)
 
 pub word-drop : (s : List Part) (v : Values) (i : ℕ) (d : Part) → i < length s → word (drop i s) v ≡ word (drop (suc i) s) v * 2 ^ width (get_or s i d) + value (get_or s i d) v
 word-drop s v i d h = ap (λ t. word t v) (drop-cons s i d h)

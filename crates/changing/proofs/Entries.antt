@@ -86,5 +86,5 @@ changed-cons xs used e es cells = applied-append (pair_puts used e.value (number
 pub some_at : (xs : List ℕ) (i x : ℕ) → Some x ≡ slice_get xs i → x ≡ get_or xs i 0
 some_at xs i x e = elim (cases_lt i (length xs)) [ inl h ↦ (let f = nth-getD xs i 0 h in cc) | inr h ↦ (let f = nth_past xs i h in let z : ◌≡◌ {A = ℕ} 0 1 = cc in absurd (omega arith)) ]
 
-pub none-at : (xs : List ℕ) (i : ℕ) → None ≡ slice_get xs i → 0 ≡ get_or xs i 0
-none-at xs i e = elim (cases_lt i (length xs)) [ inl h ↦ (let f = nth-getD xs i 0 h in let z : ◌≡◌ {A = ℕ} 0 1 = cc in absurd (omega arith)) | inr h ↦ sym (get_or_past xs i 0 h) ]
+pub none_at : (xs : List ℕ) (i : ℕ) → None ≡ slice_get xs i → 0 ≡ get_or xs i 0
+none_at xs i e = elim (cases_lt i (length xs)) [ inl h ↦ (let f = nth-getD xs i 0 h in let z : ◌≡◌ {A = ℕ} 0 1 = cc in absurd (omega arith)) | inr h ↦ sym (get_or_past xs i 0 h) ]

@@ -13,16 +13,16 @@ narrow (check v k e ∷ s) t = go (ltb v (2 ^ k)) refl (narrow s) t
     go false h r t = absurd (let z : ◌≡◌ {A = ℕ} 0 1 = cc in omega arith)
 
 -- and operands with narrow codes are lawful
-pub none-wide : (s : List Check) → Narrow s → first_wide s ≡ None
-none-wide [] n = refl
-none-wide (check v k e ∷ s) n =
+pub none_wide : (s : List Check) → Narrow s → first_wide s ≡ None
+none_wide [] n = refl
+none_wide (check v k e ∷ s) n =
     let h = n.0 in
     let t : ltb v (2 ^ k) ≡ true = grind (arith, nat_tests) in
-    subst (λ b. cond b (first_wide s) (Some (e v)) ≡ None) (sym t) (none-wide s n.1)
+    subst (λ b. cond b (first_wide s) (Some (e v)) ≡ None) (sym t) (none_wide s n.1)
 
 -- a field that has no bits is 0
-pub none-there : (n : ℕ) → n < 1 → 0 ≡ n
-none-there n h = omega arith
+pub none_there : (n : ℕ) → n < 1 → 0 ≡ n
+none_there n h = omega arith
 
 -- what an encoder answers for lawful operands
 pub no_fault : {A E : Type 0} (f : Option E) (w : A) (r : Result A E) (e : E) → f ≡ None → r ≡ outcome f w → r ≡ Err e → ⊥

@@ -2,14 +2,14 @@
 use Rattle.std.proofs.Common.{◌≡◌, ℕ, Bool, true, false, Some, None, Option, ap, ◌∙◌, subst, arith, MatchOption}
 use Rattle.bits.specs.declared.part.Values.{Values}
 use Rattle.bits.specs.Layout.{word, picks, Fit}
-use Rattle.bits.proofs.Layouts.{picks-only}
+use Rattle.bits.proofs.Layouts.{picks_only}
 use Rattle.formats.specs.declared.kind.Kind.{Kind}
 use Rattle.formats.specs.declared.faults.WideCode.{WideCode}
 use Rattle.formats.specs.Layouts.{layout}
-use Rattle.formats.proofs.Sound.{layout-sound}
+use Rattle.formats.proofs.Sound.{layout_sound}
 
-pub none-some : {X : Type 0} (P : Type 0) (x : X) → ◌≡◌ {A = Option X} None (Some x) → P
-none-some P x e = absurd (let z : ◌≡◌ {A = ℕ} 0 1 = cc in omega arith)
+pub none_some : {X : Type 0} (P : Type 0) (x : X) → ◌≡◌ {A = Option X} None (Some x) → P
+none_some P x e = absurd (let z : ◌≡◌ {A = ℕ} 0 1 = cc in omega arith)
 
 pub some_one : {X : Type 0} (x y : X) → ◌≡◌ {A = Option X} (Some x) (Some y) → x ≡ y
 some_one x y e = cc
@@ -22,14 +22,14 @@ module _ (O : Type 0) (fault : O → Option WideCode) (values : O → Values) (a
   Made r = MatchOption r (allows v ≡ false) (λ o. (fault o ≡ None) × (values o ≡ v))
 
   pub forth : (r : Option O) → Made r → (o : O) → r ≡ Some o → (fault o ≡ None) × (word (layout k) (values o) ≡ w)
-  forth None h o e = none-some ((fault o ≡ None) × (word (layout k) (values o) ≡ w)) o e
+  forth None h o e = none_some ((fault o ≡ None) × (word (layout k) (values o) ≡ w)) o e
   forth (Some p) h o e =
       let q : p ≡ o = cc in
       subst (λ x. (fault x ≡ None) × (word (layout k) (values x) ≡ w)) q (h.0, ap (word (layout k)) h.1 ∙ joined)
 
   -- the fields of lawful operands with this word are those that were picked
   found : (o : O) → Fit (layout k) (values o) → word (layout k) (values o) ≡ w → v ≡ values o
-  found o f e = is ∙ picks-only (layout k) (values o) w (layout-sound k) f e
+  found o f e = is ∙ picks_only (layout k) (values o) w (layout_sound k) f e
 
   pub back : (r : Option O) → Made r → ((o p : O) → values o ≡ values p → o ≡ p) → (o : O) → Fit (layout k) (values o) → allows (values o) ≡ true → word (layout k) (values o) ≡ w → r ≡ Some o
   back None h known o f a e = clash (None ≡ Some o) (allows v) (ap allows (found o f e) ∙ a) h

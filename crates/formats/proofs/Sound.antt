@@ -8,61 +8,61 @@ use Rattle.formats.specs.declared.kind.Kind.{Kind}
 use Rattle.formats.specs.declared.kind.Kind.TheVariants as kind
 use Rattle.formats.specs.Layouts.{layout}
 
-pub layout-sound : (k : Kind) → sound (layout k) ≡ true
-layout-sound kind.R = refl
-layout-sound kind.I = refl
-layout-sound kind.S = refl
-layout-sound kind.U = refl
-layout-sound kind.B = refl
-layout-sound kind.J = refl
-layout-sound kind.V = refl
-layout-sound kind.VImm = refl
-layout-sound kind.VMem = refl
-layout-sound kind.Cr = refl
-layout-sound kind.Cr2 = refl
-layout-sound kind.CrBare = refl
-layout-sound kind.Ca = refl
-layout-sound kind.Cj = refl
-layout-sound kind.Ci = refl
-layout-sound kind.CiLwsp = refl
-layout-sound kind.CiLdsp = refl
-layout-sound kind.CiAddi16sp = refl
-layout-sound kind.Ciw = refl
-layout-sound kind.Cb = refl
-layout-sound kind.CssWord = refl
-layout-sound kind.CssDouble = refl
-layout-sound kind.CsWord = refl
-layout-sound kind.CsDouble = refl
-layout-sound kind.ClWord = refl
-layout-sound kind.ClDouble = refl
+pub layout_sound : (k : Kind) → sound (layout k) ≡ true
+layout_sound kind.R = refl
+layout_sound kind.I = refl
+layout_sound kind.S = refl
+layout_sound kind.U = refl
+layout_sound kind.B = refl
+layout_sound kind.J = refl
+layout_sound kind.V = refl
+layout_sound kind.VImm = refl
+layout_sound kind.VMem = refl
+layout_sound kind.Cr = refl
+layout_sound kind.Cr2 = refl
+layout_sound kind.CrBare = refl
+layout_sound kind.Ca = refl
+layout_sound kind.Cj = refl
+layout_sound kind.Ci = refl
+layout_sound kind.CiLwsp = refl
+layout_sound kind.CiLdsp = refl
+layout_sound kind.CiAddi16sp = refl
+layout_sound kind.Ciw = refl
+layout_sound kind.Cb = refl
+layout_sound kind.CssWord = refl
+layout_sound kind.CssDouble = refl
+layout_sound kind.CsWord = refl
+layout_sound kind.CsDouble = refl
+layout_sound kind.ClWord = refl
+layout_sound kind.ClDouble = refl
 
-pub layout-handy : (k : Kind) → handies (layout k) ≡ true
-layout-handy kind.R = refl
-layout-handy kind.I = refl
-layout-handy kind.S = refl
-layout-handy kind.U = refl
-layout-handy kind.B = refl
-layout-handy kind.J = refl
-layout-handy kind.V = refl
-layout-handy kind.VImm = refl
-layout-handy kind.VMem = refl
-layout-handy kind.Cr = refl
-layout-handy kind.Cr2 = refl
-layout-handy kind.CrBare = refl
-layout-handy kind.Ca = refl
-layout-handy kind.Cj = refl
-layout-handy kind.Ci = refl
-layout-handy kind.CiLwsp = refl
-layout-handy kind.CiLdsp = refl
-layout-handy kind.CiAddi16sp = refl
-layout-handy kind.Ciw = refl
-layout-handy kind.Cb = refl
-layout-handy kind.CssWord = refl
-layout-handy kind.CssDouble = refl
-layout-handy kind.CsWord = refl
-layout-handy kind.CsDouble = refl
-layout-handy kind.ClWord = refl
-layout-handy kind.ClDouble = refl
+pub layout_handy : (k : Kind) → handies (layout k) ≡ true
+layout_handy kind.R = refl
+layout_handy kind.I = refl
+layout_handy kind.S = refl
+layout_handy kind.U = refl
+layout_handy kind.B = refl
+layout_handy kind.J = refl
+layout_handy kind.V = refl
+layout_handy kind.VImm = refl
+layout_handy kind.VMem = refl
+layout_handy kind.Cr = refl
+layout_handy kind.Cr2 = refl
+layout_handy kind.CrBare = refl
+layout_handy kind.Ca = refl
+layout_handy kind.Cj = refl
+layout_handy kind.Ci = refl
+layout_handy kind.CiLwsp = refl
+layout_handy kind.CiLdsp = refl
+layout_handy kind.CiAddi16sp = refl
+layout_handy kind.Ciw = refl
+layout_handy kind.Cb = refl
+layout_handy kind.CssWord = refl
+layout_handy kind.CssDouble = refl
+layout_handy kind.CsWord = refl
+layout_handy kind.CsDouble = refl
+layout_handy kind.ClWord = refl
+layout_handy kind.ClDouble = refl
 
 pub fit_of : (s : List Part) (v : Values) → v.d < 2 ^ span s D → v.a < 2 ^ span s A → v.b < 2 ^ span s B → v.n < 2 ^ span s N → v.m < 2 ^ span s M → v.opcode < 2 ^ span s Opcode → v.funct3 < 2 ^ span s Funct3 → v.funct < 2 ^ span s Funct → Fit s v
 fit_of s v hd ha hb hn hm ho h3 hf D = hd

@@ -9,9 +9,9 @@ pub andb : (b c : Bool) → (b && c) ≡ true → (b ≡ true) × (c ≡ true)
 andb true c t = (refl, t)
 andb false c t = grind (arith, t)
 
-pub and-true : (b c : Bool) → b ≡ true → c ≡ true → (b && c) ≡ true
-and-true true c t u = u
-and-true false c t u = t
+pub and_true : (b c : Bool) → b ≡ true → c ≡ true → (b && c) ≡ true
+and_true true c t u = u
+and_true false c t u = t
 
 abbrev pub all : List Bool → Bool
 all [] = true
@@ -50,9 +50,9 @@ none_of [] t = refl
 none_of (check true e ∷ s) t = none_of s t
 none_of (check false e ∷ s) t = absurd (let z : ◌≡◌ {A = ℕ} 0 1 = cc in omega arith)
 
-or-none : (a b : Option BuildFault) → or_else a b ≡ None → (a ≡ None) × (b ≡ None)
-or-none None b h = (refl, h)
-or-none (Some e) b h = absurd (let z : ◌≡◌ {A = ℕ} 0 1 = cc in omega arith)
+or_none : (a b : Option BuildFault) → or_else a b ≡ None → (a ≡ None) × (b ≡ None)
+or_none None b h = (refl, h)
+or_none (Some e) b h = absurd (let z : ◌≡◌ {A = ℕ} 0 1 = cc in omega arith)
 
 pub good : (r : Form) (f : Fields) → lawful r f ≡ true → fault r f ≡ None
 good r f t = go (fault r f) t
@@ -70,9 +70,9 @@ pub record Clean (r : Form) (f : Fields) : Type 0 where
 
 pub clean : (r : Form) (f : Fields) → lawful r f ≡ true → Clean r f
 clean r f t =
-    let a = or-none (first (unused_checks r f)) (or_else (first (range_checks r f)) (or_else (first (rule_checks r f)) (first (overlap_checks r f)))) (good r f t) in
-    let b = or-none (first (range_checks r f)) (or_else (first (rule_checks r f)) (first (overlap_checks r f))) a.1 in
-    let c = or-none (first (rule_checks r f)) (first (overlap_checks r f)) b.1 in
+    let a = or_none (first (unused_checks r f)) (or_else (first (range_checks r f)) (or_else (first (rule_checks r f)) (first (overlap_checks r f)))) (good r f t) in
+    let b = or_none (first (range_checks r f)) (or_else (first (rule_checks r f)) (first (overlap_checks r f))) a.1 in
+    let c = or_none (first (rule_checks r f)) (first (overlap_checks r f)) b.1 in
     record { unused = a.0; ranges = b.0; rules = c.0; overlaps = c.1 }
 
 -- the tests of the fields that are not used, of the ranges, and of the rules, by number

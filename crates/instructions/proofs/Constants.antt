@@ -40,8 +40,8 @@ number_lt (Signed k u w) n h t = signed_lt k u w h n t
 number_lt (Unsigned k u w) (pos n) h t = grind (arith, nat_tests)
 number_lt (Unsigned k u w) (negsuc n) h t = absurd (let z : ◌≡◌ {A = ℕ} 0 1 = cc in omega arith)
 
-pub neg-count : (k u : ℕ) (w : Allowed) (n : ℤ) → number_ok (Signed k u w) n ≡ true → lt_z n (pos 0) ≡ true → nat_abs n / u ≤ 2 ^ k
-neg-count k u w (pos n) t l = absurd (let z : ◌≡◌ {A = ℕ} 0 1 = grind (arith, nat_tests) in omega arith)
-neg-count k u w (negsuc n) t l =
+pub neg_count : (k u : ℕ) (w : Allowed) (n : ℤ) → number_ok (Signed k u w) n ≡ true → lt_z n (pos 0) ≡ true → nat_abs n / u ≤ 2 ^ k
+neg_count k u w (pos n) t l = absurd (let z : ◌≡◌ {A = ℕ} 0 1 = grind (arith, nat_tests) in omega arith)
+neg_count k u w (negsuc n) t l =
     let a : suc n / u ≤ 2 ^ (k - 1) = grind (arith, nat_tests) in
     le_trans a (pow_mono (omega arith))

@@ -13,7 +13,7 @@ use Rattle.operations.specs.declared.row.Masking.{Masking}
 use Rattle.operations.specs.declared.row.Masking.TheVariants.{NoMask, Free, Always, Never}
 use Rattle.operations.specs.declared.row.Form.{Form}
 use Rattle.operations.specs.Manual.{Entry, operations, form_at, no_entry, count}
-use Rattle.operations.proofs.Rows.{operations-length}
+use Rattle.operations.proofs.Rows.{operations_length}
 use Rattle.instructions.specs.declared.fields.Fields.{Fields}
 use Rattle.instructions.specs.Faults.{reg_ok, lawful, Workable, SomeBits}
 use Rattle.instructions.specs.Words.{raw_reg, raw_number, raw_mask, raw}
@@ -84,14 +84,14 @@ tests r =
 
 -- a form that agrees with its format's layout
 pub record Agrees (r : Form) : Type 0 where
-  pub d-span : span (layout r.kind) D ≡ reg_width r.d
-  pub a-span : span (layout r.kind) A ≡ reg_width r.a
-  pub b-span : span (layout r.kind) B ≡ reg_width r.b
-  pub n-span : span (layout r.kind) N ≡ number_width r.n
-  pub m-span : span (layout r.kind) M ≡ mask_width r.m
-  pub opcode-lt : r.opcode < 2 ^ span (layout r.kind) Opcode
-  pub funct3-lt : r.funct3 < 2 ^ span (layout r.kind) Funct3
-  pub funct-lt : r.funct < 2 ^ span (layout r.kind) Funct
+  pub d_span : span (layout r.kind) D ≡ reg_width r.d
+  pub a_span : span (layout r.kind) A ≡ reg_width r.a
+  pub b_span : span (layout r.kind) B ≡ reg_width r.b
+  pub n_span : span (layout r.kind) N ≡ number_width r.n
+  pub m_span : span (layout r.kind) M ≡ mask_width r.m
+  pub opcode_lt : r.opcode < 2 ^ span (layout r.kind) Opcode
+  pub funct3_lt : r.funct3 < 2 ^ span (layout r.kind) Funct3
+  pub funct_lt : r.funct < 2 ^ span (layout r.kind) Funct
   pub works : Workable r.n
   pub halves : Halved r.n
 
@@ -100,14 +100,14 @@ agrees r t =
     let at = test (tests r) t in
     let s = layout r.kind in
     record {
-      d-span = is (span s D) (reg_width r.d) (at 0);
-      a-span = is (span s A) (reg_width r.a) (at 1);
-      b-span = is (span s B) (reg_width r.b) (at 2);
-      n-span = is (span s N) (number_width r.n) (at 3);
-      m-span = is (span s M) (mask_width r.m) (at 4);
-      opcode-lt = less r.opcode (2 ^ span s Opcode) (at 5);
-      funct3-lt = less r.funct3 (2 ^ span s Funct3) (at 6);
-      funct-lt = less r.funct (2 ^ span s Funct) (at 7);
+      d_span = is (span s D) (reg_width r.d) (at 0);
+      a_span = is (span s A) (reg_width r.a) (at 1);
+      b_span = is (span s B) (reg_width r.b) (at 2);
+      n_span = is (span s N) (number_width r.n) (at 3);
+      m_span = is (span s M) (mask_width r.m) (at 4);
+      opcode_lt = less r.opcode (2 ^ span s Opcode) (at 5);
+      funct3_lt = less r.funct3 (2 ^ span s Funct3) (at 6);
+      funct_lt = less r.funct (2 ^ span s Funct) (at 7);
       works = works r.n (at 8);
       halves = halves r.n (at 9);
     }
@@ -118,7 +118,7 @@ all_agree = refl
 
 pub form_agrees : (k : ℕ) → k < count → Agrees (form_at k)
 form_agrees k h =
-    agrees (form_at k) (every_at (λ (e : Entry). all (tests e.form)) operations no_entry all_agree k (subst (λ (n : ℕ). k < n) (sym operations-length) h))
+    agrees (form_at k) (every_at (λ (e : Entry). all (tests e.form)) operations no_entry all_agree k (subst (λ (n : ℕ). k < n) (sym operations_length) h))
 
 -- ---- the fields in the word
 
@@ -139,17 +139,17 @@ spanned : (x a b : ℕ) → a ≡ b → x < 2 ^ b → x < 2 ^ a
 spanned x a b e h = subst (λ n. x < 2 ^ n) (sym e) h
 
 -- the fields of a lawful instruction fit its format
-pub raw-fits : (r : Form) (f : Fields) → Agrees r → lawful r f ≡ true → Fit (layout r.kind) (raw r f)
-raw-fits r f a t =
+pub raw_fits : (r : Form) (f : Fields) → Agrees r → lawful r f ≡ true → Fit (layout r.kind) (raw r f)
+raw_fits r f a t =
     let s = layout r.kind in
     let ok = range_at r f t in
     fit_of s (raw r f)
-    (spanned _ (span s D) _ a.d-span (reg_lt r.d f.d (ok 0)))
-    (spanned _ (span s A) _ a.a-span (reg_lt r.a f.a (ok 1)))
-    (spanned _ (span s B) _ a.b-span (reg_lt r.b f.b (ok 2)))
-    (spanned _ (span s N) _ a.n-span (number_lt r.n f.n a.halves (ok 3)))
-    (spanned _ (span s M) _ a.m-span (mask_lt r.m f.m))
-    a.opcode-lt a.funct3-lt a.funct-lt
+    (spanned _ (span s D) _ a.d_span (reg_lt r.d f.d (ok 0)))
+    (spanned _ (span s A) _ a.a_span (reg_lt r.a f.a (ok 1)))
+    (spanned _ (span s B) _ a.b_span (reg_lt r.b f.b (ok 2)))
+    (spanned _ (span s N) _ a.n_span (number_lt r.n f.n a.halves (ok 3)))
+    (spanned _ (span s M) _ a.m_span (mask_lt r.m f.m))
+    a.opcode_lt a.funct3_lt a.funct_lt
 
 width_32 : (c : Number) → Workable c → number_width c ≤ 32
 width_32 NoNumber w = omega arith

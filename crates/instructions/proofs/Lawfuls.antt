@@ -14,7 +14,7 @@ use Rattle.operations.specs.declared.row.Form.{Form}
 use Rattle.instructions.specs.declared.fields.Fields.{Fields}
 use Rattle.instructions.specs.Faults.{idle, idle_number, idle_mask, reg_ok, number_ok, mask_ok, mask_rule, taken, allows, taken_number, vectored, unlike, unused_checks, range_checks, rule_checks, overlap_checks, or_else, is_none, lawful}
 use Rattle.instructions.specs.Laws.{InUse, InRange, InMask, Takes, Allows, TakesNumber, Lawful, LawfulExactly}
-use Rattle.instructions.proofs.Checks.{andb, and-true, none_of, unused_at, range_at, rule_at, overlap_at}
+use Rattle.instructions.proofs.Checks.{andb, and_true, none_of, unused_at, range_at, rule_at, overlap_at}
 
 zero_int : (z : ℤ) → eqb (nat_abs z) 0 ≡ true → z ≡ pos 0
 zero_int (pos n) t = ap pos (let e : n ≡ 0 = grind (arith, nat_tests) in e)
@@ -77,16 +77,16 @@ of_four n t = go (eqb n 0) refl (eqb n 1) refl (eqb n 3) refl t
     go false ea false eb true ec t = inr (inr (inl (is n 3 ec)))
     go false ea false eb false ec t = inr (inr (inr (is n 7 t)))
 
-four-pos : (n : ℕ) → (n ≡ 0) ⊎ ((n ≡ 1) ⊎ ((n ≡ 3) ⊎ (n ≡ 7))) → Allows GroupSize (pos n)
-four-pos n (inl e) = inl (ap pos e)
-four-pos n (inr (inl e)) = inr (inl (ap pos e))
-four-pos n (inr (inr (inl e))) = inr (inr (inl (ap pos e)))
-four-pos n (inr (inr (inr e))) = inr (inr (inr (ap pos e)))
+four_pos : (n : ℕ) → (n ≡ 0) ⊎ ((n ≡ 1) ⊎ ((n ≡ 3) ⊎ (n ≡ 7))) → Allows GroupSize (pos n)
+four_pos n (inl e) = inl (ap pos e)
+four_pos n (inr (inl e)) = inr (inl (ap pos e))
+four_pos n (inr (inr (inl e))) = inr (inr (inl (ap pos e)))
+four_pos n (inr (inr (inr e))) = inr (inr (inr (ap pos e)))
 
 takes_allowed : (w : Allowed) (n : ℤ) → allows w n ≡ true → Allows w n
 takes_allowed All n t = tt
 takes_allowed NonZero n t = no_zero n 0 t
-takes_allowed GroupSize (pos n) t = four-pos n (of_four n t)
+takes_allowed GroupSize (pos n) t = four_pos n (of_four n t)
 takes_allowed GroupSize (negsuc n) t = no (Allows GroupSize (negsuc n)) t
 
 takes_number : (u : Number) (n : ℤ) → taken_number u n ≡ true → TakesNumber u n
@@ -115,8 +115,8 @@ forth r f t =
       b_takes = takes r.b f.b (ru 2);
       n_takes = takes_number r.n f.n (ru 3);
       d_not_b = never r.forbids.sources f.d (nat_abs f.b) (ov 0);
-      d_not_a = λ p q. never (r.forbids.sources && vectored r.a) f.d (nat_abs f.a) (ov 1) (and-true r.forbids.sources (vectored r.a) p q);
-      d_not_v0 = λ p q. never (r.forbids.mask && eqb (nat_abs f.m) 1) f.d 0 (ov 2) (and-true r.forbids.mask (eqb (nat_abs f.m) 1) p (eqb_true (nat_abs f.m) 1 q));
+      d_not_a = λ p q. never (r.forbids.sources && vectored r.a) f.d (nat_abs f.a) (ov 1) (and_true r.forbids.sources (vectored r.a) p q);
+      d_not_v0 = λ p q. never (r.forbids.mask && eqb (nat_abs f.m) 1) f.d 0 (ov 2) (and_true r.forbids.mask (eqb (nat_abs f.m) 1) p (eqb_true (nat_abs f.m) 1 q));
     }
 
 idle_of : (u : Use) (x : ℤ) → InUse u x → idle u x ≡ true
@@ -170,7 +170,7 @@ taken_of Absent x i h = refl
 taken_of (Full c Nothing) x i h = refl
 taken_of (Full c Zero) (pos x) i h = not_is x 0 (λ e. h (ap pos e))
 taken_of (Full c Zero) (negsuc x) i h = absurd i
-taken_of (Full c ZeroAndTwo) (pos x) i h = and-true _ _ (not_is x 0 (λ e. h.0 (ap pos e))) (not_is x 2 (λ e. h.1 (ap pos e)))
+taken_of (Full c ZeroAndTwo) (pos x) i h = and_true _ _ (not_is x 0 (λ e. h.0 (ap pos e))) (not_is x 2 (λ e. h.1 (ap pos e)))
 taken_of (Full c ZeroAndTwo) (negsuc x) i h = absurd i
 taken_of (Short c) x i h = refl
 
@@ -198,29 +198,29 @@ unlike_of false x y h = refl
 back : (r : Form) (f : Fields) → Lawful r f → lawful r f ≡ true
 back r f l =
     let u = none_of (unused_checks r f)
-    (and-true _ _ (idle_of r.d f.d l.d_in)
-    (and-true _ _ (idle_of r.a f.a l.a_in)
-    (and-true _ _ (idle_of r.b f.b l.b_in)
-    (and-true _ _ (idle_number_of r.n f.n l.n_in)
-    (and-true _ _ (idle_mask_of r.m f.m l.m_in) refl))))) in
+    (and_true _ _ (idle_of r.d f.d l.d_in)
+    (and_true _ _ (idle_of r.a f.a l.a_in)
+    (and_true _ _ (idle_of r.b f.b l.b_in)
+    (and_true _ _ (idle_number_of r.n f.n l.n_in)
+    (and_true _ _ (idle_mask_of r.m f.m l.m_in) refl))))) in
     let o = none_of (range_checks r f)
-    (and-true _ _ (reg_of r.d f.d l.d_in)
-    (and-true _ _ (reg_of r.a f.a l.a_in)
-    (and-true _ _ (reg_of r.b f.b l.b_in)
-    (and-true _ _ (number_of r.n f.n l.n_in)
-    (and-true _ _ (mask_of r.m f.m l.m_in) refl))))) in
+    (and_true _ _ (reg_of r.d f.d l.d_in)
+    (and_true _ _ (reg_of r.a f.a l.a_in)
+    (and_true _ _ (reg_of r.b f.b l.b_in)
+    (and_true _ _ (number_of r.n f.n l.n_in)
+    (and_true _ _ (mask_of r.m f.m l.m_in) refl))))) in
     let w = none_of (rule_checks r f)
-    (and-true _ _ (taken_of r.d f.d l.d_in l.d_takes)
-    (and-true _ _ (taken_of r.a f.a l.a_in l.a_takes)
-    (and-true _ _ (taken_of r.b f.b l.b_in l.b_takes)
-    (and-true _ _ (taken_number_of r.n f.n l.n_takes)
-    (and-true _ _ (rule_of r.m f.m l.m_in) refl))))) in
+    (and_true _ _ (taken_of r.d f.d l.d_in l.d_takes)
+    (and_true _ _ (taken_of r.a f.a l.a_in l.a_takes)
+    (and_true _ _ (taken_of r.b f.b l.b_in l.b_takes)
+    (and_true _ _ (taken_number_of r.n f.n l.n_takes)
+    (and_true _ _ (rule_of r.m f.m l.m_in) refl))))) in
     let s = r.forbids.sources in
     let v = none_of (overlap_checks r f)
-    (and-true _ _ (unlike_of s f.d (nat_abs f.b) l.d_not_b)
-    (and-true _ _ (unlike_of (s && vectored r.a) f.d (nat_abs f.a) (λ t. let z = andb s (vectored r.a) t in l.d_not_a z.0 z.1))
-    (and-true _ _ (unlike_of (r.forbids.mask && eqb (nat_abs f.m) 1) f.d 0 (λ t. let z = andb r.forbids.mask (eqb (nat_abs f.m) 1) t in l.d_not_v0 z.0 (is (nat_abs f.m) 1 z.1))) refl))) in
+    (and_true _ _ (unlike_of s f.d (nat_abs f.b) l.d_not_b)
+    (and_true _ _ (unlike_of (s && vectored r.a) f.d (nat_abs f.a) (λ t. let z = andb s (vectored r.a) t in l.d_not_a z.0 z.1))
+    (and_true _ _ (unlike_of (r.forbids.mask && eqb (nat_abs f.m) 1) f.d 0 (λ t. let z = andb r.forbids.mask (eqb (nat_abs f.m) 1) t in l.d_not_v0 z.0 (is (nat_abs f.m) 1 z.1))) refl))) in
     ap is_none (ap₂ or_else u (ap₂ or_else o (ap₂ or_else w v)))
 
-pub lawful-exactly : LawfulExactly
-lawful-exactly r f = (forth r f, back r f)
+pub lawful_exactly : LawfulExactly
+lawful_exactly r f = (forth r f, back r f)

@@ -12,7 +12,7 @@ use Rattle.bits.proofs.Layouts.{under, word_lt}
 use Rattle.formats.specs.Layouts.{layout, size}
 use Rattle.operations.specs.declared.row.Form.{Form}
 use Rattle.operations.specs.Manual.{Entry, operations, form_at, no_entry, count}
-use Rattle.operations.proofs.Rows.{operations-length}
+use Rattle.operations.proofs.Rows.{operations_length}
 use Rattle.instructions.specs.declared.fields.Fields.{Fields}
 use Rattle.instructions.specs.declared.instruction.Instruction.{Instruction}
 use Rattle.instructions.specs.Words.{raw, the_word, halves, halfwords_in}
@@ -24,11 +24,11 @@ cond_same true x y h = h refl
 cond_same false x y h = refl
 
 -- the fixed bits depend on the codes alone
-pub bits-same : (s : List Part) (v u : Values) → ((f : Field) → code f ≡ true → value_at f v ≡ value_at f u) → bits s v ≡ bits s u
-bits-same [] v u h = refl
-bits-same (Fixed w c ∷ s) v u h = ap (λ x. x * 2 ^ w + c % 2 ^ w) (bits-same s v u h)
-bits-same (Slice f l w ∷ s) v u h =
-    ap₂ (λ (x y : ℕ). x * 2 ^ w + y) (bits-same s v u h)
+pub bits_same : (s : List Part) (v u : Values) → ((f : Field) → code f ≡ true → value_at f v ≡ value_at f u) → bits s v ≡ bits s u
+bits_same [] v u h = refl
+bits_same (Fixed w c ∷ s) v u h = ap (λ x. x * 2 ^ w + c % 2 ^ w) (bits_same s v u h)
+bits_same (Slice f l w ∷ s) v u h =
+    ap₂ (λ (x y : ℕ). x * 2 ^ w + y) (bits_same s v u h)
     (cond_same (code f) (value_at f v / 2 ^ l % 2 ^ w) (value_at f u / 2 ^ l % 2 ^ w) (λ t. ap (λ x. x / 2 ^ l % 2 ^ w) (h f t)))
 
 -- an operation's codes, with no other field
@@ -48,8 +48,8 @@ same_codes r f Opcode t = refl
 same_codes r f Funct3 t = refl
 same_codes r f Funct t = refl
 
-pub raw-bits : (r : Form) (f : Fields) → bits (layout r.kind) (raw r f) ≡ bits (layout r.kind) (codes r)
-raw-bits r f = bits-same (layout r.kind) (raw r f) (codes r) (same_codes r f)
+pub raw_bits : (r : Form) (f : Fields) → bits (layout r.kind) (raw r f) ≡ bits (layout r.kind) (codes r)
+raw_bits r f = bits_same (layout r.kind) (raw r f) (codes r) (same_codes r f)
 
 low : (s : List Part) (v : Values) → mask s % 4 ≡ 3 → word s v % 4 ≡ bits s v % 4
 low s v h =
@@ -72,26 +72,26 @@ equal : (a b : ℕ) → eqb a b ≡ true → a ≡ b
 equal a b t = grind (arith, nat_tests)
 
 told_at : (k : ℕ) → k < count → (j : ℕ) → get_or (told (form_at k)) j true ≡ true
-told_at k h = test (told (form_at k)) (every_at (λ (e : Entry). all (told e.form)) operations no_entry all_told k (subst (λ (n : ℕ). k < n) (sym operations-length) h))
+told_at k h = test (told (form_at k)) (every_at (λ (e : Entry). all (told e.form)) operations no_entry all_told k (subst (λ (n : ℕ). k < n) (sym operations_length) h))
 
-pub low-bits_tell : LowBitsTell
-low-bits_tell k f h =
+pub low_bits_tell : LowBitsTell
+low_bits_tell k f h =
     let r = form_at k in
     let s = layout r.kind in
     equal (size r.kind) (cond (eqb (bits s (codes r) % 4) 3) 2 1) (told_at k h 1)
-    ∙ sym (ap (λ x. cond (eqb x 3) 2 1) (low s (raw r f) (equal (mask s % 4) 3 (told_at k h 0)) ∙ ap (λ x. x % 4) (raw-bits r f)))
+    ∙ sym (ap (λ x. cond (eqb x 3) 2 1) (low s (raw r f) (equal (mask s % 4) 3 (told_at k h 0)) ∙ ap (λ x. x % 4) (raw_bits r f)))
 
 -- ---- an instruction's halfwords
 
 told_two : (i : Instruction) (x : ℕ) → x ≡ the_word i → x % 4 ≡ 3 → size (form_at i.op.place).kind ≡ 2
 told_two i x e t =
     let b : eqb (x % 4) 3 ≡ true = grind (arith, nat_tests) in
-    low-bits_tell i.op.place i.fields i.op.real ∙ ap (λ w. cond (eqb (w % 4) 3) 2 1) (sym e) ∙ ap (λ b. cond b 2 1) b
+    low_bits_tell i.op.place i.fields i.op.real ∙ ap (λ w. cond (eqb (w % 4) 3) 2 1) (sym e) ∙ ap (λ b. cond b 2 1) b
 
 told_one : (i : Instruction) (x : ℕ) → x ≡ the_word i → (x % 4 ≡ 3 → ⊥) → size (form_at i.op.place).kind ≡ 1
 told_one i x e n =
     let b : eqb (x % 4) 3 ≡ false = grind (arith, nat_tests) in
-    low-bits_tell i.op.place i.fields i.op.real ∙ ap (λ w. cond (eqb (w % 4) 3) 2 1) (sym e) ∙ ap (λ b. cond b 2 1) b
+    low_bits_tell i.op.place i.fields i.op.real ∙ ap (λ w. cond (eqb (w % 4) 3) 2 1) (sym e) ∙ ap (λ b. cond b 2 1) b
 
 pub two_halves : (i : Instruction) (x : ℕ) → x ≡ the_word i → x % 4 ≡ 3 → bit_and x 65535 ∷ x / 65536 ∷ [] ≡ halfwords_in i
 two_halves i x e t =

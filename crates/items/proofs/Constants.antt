@@ -5,7 +5,7 @@ use Rattle.formats.specs.Layouts.{size}
 use Rattle.operations.specs.Manual.{operations, form_at, count}
 use Rattle.instructions.specs.Words.{word_of, halves}
 use Rattle.pairs.specs.Pairs as pairs
-use Rattle.pairs.proofs.Words.{lui_is, addi_is, lui_size, addi_size, pair-words, pair-holds}
+use Rattle.pairs.proofs.Words.{lui_is, addi_is, lui_size, addi_size, pair_words, pair_holds}
 use Rattle.items.specs.Items.{Lawful, words, jumps}
 use Rattle.items.specs.Pairs.{register_ok, makeable, upper, lower, pair, held, held_at}
 use Rattle.items.specs.Laws.{PairLaws}
@@ -31,11 +31,11 @@ lower_stays d v = refl
 
 upper_lawful : (d v : ℤ) → register_ok d ≡ true → makeable v ≡ true → Lawful (upper d v)
 unfolding register_ok makeable upper Lawful
-upper_lawful d v r m = (subst (λ k. k < count) (sym lui_is) (lit< tt), (pair-holds d v r m).upper_lawful)
+upper_lawful d v r m = (subst (λ k. k < count) (sym lui_is) (lit< tt), (pair_holds d v r m).upper_lawful)
 
 lower_lawful : (d v : ℤ) → register_ok d ≡ true → makeable v ≡ true → Lawful (lower d v)
 unfolding register_ok makeable lower Lawful
-lower_lawful d v r m = (subst (λ k. k < count) (sym addi_is) (lit< tt), (pair-holds d v r m).lower_lawful)
+lower_lawful d v r m = (subst (λ k. k < count) (sym addi_is) (lit< tt), (pair_holds d v r m).lower_lawful)
 
 -- four halfwords behind others
 behind : (xs before after : List ℕ) (a b c e : ℕ) → xs ≡ a ∷ b ∷ c ∷ e ∷ [] → pairs.held_at (before ++ (xs ++ after)) (length before) ≡ pairs.held_at xs 0
@@ -52,7 +52,7 @@ behind xs before after a b c e h =
 
 holds : (d v : ℤ) (before after : List ℕ) → register_ok d ≡ true → makeable v ≡ true → held_at (before ++ (pair d v ++ after)) (length before) ≡ v
 unfolding register_ok makeable words upper lower held
-holds d v before after r m = behind (pairs.pair d v) before after _ _ _ _ (pair-words d (pairs.high_of v) (pairs.low_of v)) ∙ (pair-holds d v r m).holds
+holds d v before after r m = behind (pairs.pair d v) before after _ _ _ _ (pair_words d (pairs.high_of v) (pairs.low_of v)) ∙ (pair_holds d v r m).holds
 
 pub pair_laws : PairLaws
 pair_laws = record {

@@ -9,30 +9,30 @@ use Rattle.reading.proofs.Tell.{halfwords_tell}
 use Rattle.items.specs.Items.{Item, item_of, Lawful, AllLawful, words, halfs, aimed_at}
 use Rattle.items.specs.Laws.{ItemLaws}
 
-halves-some : (t : Bool) (w : ℕ) → 1 ≤ length (cond t (w ∷ []) (w % 65536 ∷ w / 65536 ∷ []))
-halves-some true w = omega arith
-halves-some false w = omega arith
+halves_some : (t : Bool) (w : ℕ) → 1 ≤ length (cond t (w ∷ []) (w % 65536 ∷ w / 65536 ∷ []))
+halves_some true w = omega arith
+halves_some false w = omega arith
 
-halves-few : (t : Bool) (w : ℕ) → length (cond t (w ∷ []) (w % 65536 ∷ w / 65536 ∷ [])) ≤ 2
-halves-few true w = omega arith
-halves-few false w = omega arith
+halves_few : (t : Bool) (w : ℕ) → length (cond t (w ∷ []) (w % 65536 ∷ w / 65536 ∷ [])) ≤ 2
+halves_few true w = omega arith
+halves_few false w = omega arith
 
-halves-same : (t : Bool) (w x : ℕ) → length (cond t (w ∷ []) (w % 65536 ∷ w / 65536 ∷ [])) ≡ length (cond t (x ∷ []) (x % 65536 ∷ x / 65536 ∷ []))
-halves-same true w x = refl
-halves-same false w x = refl
+halves_same : (t : Bool) (w x : ℕ) → length (cond t (w ∷ []) (w % 65536 ∷ w / 65536 ∷ [])) ≡ length (cond t (x ∷ []) (x % 65536 ∷ x / 65536 ∷ []))
+halves_same true w x = refl
+halves_same false w x = refl
 
-words-some : (i : Item) → 1 ≤ length (words i)
+words_some : (i : Item) → 1 ≤ length (words i)
 unfolding words
-words-some i = halves-some (eqb (size (form_at i.0).kind) 1) (word_of (form_at i.0) i.1)
+words_some i = halves_some (eqb (size (form_at i.0).kind) 1) (word_of (form_at i.0) i.1)
 
-words-few : (i : Item) → length (words i) ≤ 2
+words_few : (i : Item) → length (words i) ≤ 2
 unfolding words
-words-few i = halves-few (eqb (size (form_at i.0).kind) 1) (word_of (form_at i.0) i.1)
+words_few i = halves_few (eqb (size (form_at i.0).kind) 1) (word_of (form_at i.0) i.1)
 
 -- how many halfwords follows from the operation
-pub words-sized : (i : Item) (z : ℤ) → length (words (aimed_at i z)) ≡ length (words i)
+pub words_sized : (i : Item) (z : ℤ) → length (words (aimed_at i z)) ≡ length (words i)
 unfolding words aimed_at
-words-sized i z = halves-same (eqb (size (form_at i.0).kind) 1) (word_of (form_at i.0) (aimed_at i z).1) (word_of (form_at i.0) i.1)
+words_sized i z = halves_same (eqb (size (form_at i.0).kind) 1) (word_of (form_at i.0) (aimed_at i z).1) (word_of (form_at i.0) i.1)
 
 -- an instruction of each lawful item
 instruction : (i : Item) → Lawful i → Instruction
@@ -68,4 +68,4 @@ unfolding Lawful
 lawful i = (i.op.real, i.ok)
 
 pub item_laws : ItemLaws
-item_laws = record { some = words-some; few = words-few; once = once; lawful = lawful }
+item_laws = record { some = words_some; few = words_few; once = once; lawful = lawful }

@@ -6,18 +6,18 @@ use Rattle.std.proofs.lemmas.Bool.{cases_lt}
 use Rattle.store.specs.Puts.{applied, puts}
 use Rattle.operations.specs.Manual.{form_at}
 use Rattle.instructions.specs.Words.{word_of}
-use Rattle.instructions.proofs.Sizes.{low-bits_tell}
+use Rattle.instructions.proofs.Sizes.{low_bits_tell}
 use Rattle.reading.specs.Places.{begun, with_high}
-use Rattle.aiming.proofs.Lawfuls.{aimed-lawful}
+use Rattle.aiming.proofs.Lawfuls.{aimed_lawful}
 use Rattle.aiming.proofs.Places.{nth_take, nth_take_past}
-use Rattle.aiming.proofs.Stands.{halfwords_length, jump_amid, jump_here, jump-apart, jump-put}
+use Rattle.aiming.proofs.Stands.{halfwords_length, jump_amid, jump_here, jump_apart, jump_put}
 use Rattle.items.specs.Items.{Item, Lawful, words, jumps, in_reach, aimed_at, distance_of, jump_standing}
 use Rattle.items.specs.Laws.{JumpLaws}
-use Rattle.items.proofs.Items.{words-sized}
+use Rattle.items.proofs.Items.{words_sized}
 
 aimed : (i : Item) (z : ℤ) → Lawful i → jumps i ≡ true → in_reach i z ≡ true → Lawful (aimed_at i z)
 unfolding Lawful jumps in_reach aimed_at
-aimed i z w j r = (w.0, aimed-lawful i.0 i.1 z w.0 j w.1 r)
+aimed i z w j r = (w.0, aimed_lawful i.0 i.1 z w.0 j w.1 r)
 
 still : (i : Item) (z : ℤ) → jumps (aimed_at i z) ≡ jumps i
 unfolding jumps aimed_at
@@ -64,22 +64,22 @@ length_by cells used p i e =
     let h = jump_here cells used p i.0 i.1 e in
     let f = first (slice_get (take used cells) p) (slice_get (take used cells) (p + 1)) (word_of (form_at i.0) i.1) h.word in
     halfwords_length i.0 i.1 h.real
-    ∙ low-bits_tell i.0 i.1 h.real
+    ∙ low_bits_tell i.0 i.1 h.real
     ∙ ap (λ n. cond (eqb n 3) 2 1) (f.2 ∙ ap (λ n. n % 4) (sym (read_at cells used p f.0 f.1)))
 
 left : (cells : List ℕ) (used p : ℕ) (i : Item) (q : ℕ) (hs : List ℕ) → jump_standing cells used p ≡ Some i → (p + length (words i) ≤ q) ⊎ (q + length hs ≤ p) → jump_standing (applied (puts q hs) cells) used p ≡ Some i
 unfolding words jump_standing
 left cells used p i q hs e h =
     let n = halfwords_length i.0 i.1 (jump_here cells used p i.0 i.1 e).real in
-    jump-apart cells used p i.0 i.1 q hs e (elim h [ inl a ↦ inl (omega arith) | inr a ↦ inr a ])
+    jump_apart cells used p i.0 i.1 q hs e (elim h [ inl a ↦ inl (omega arith) | inr a ↦ inr a ])
 
 put : (cells : List ℕ) (used p : ℕ) (i : Item) (z : ℤ) → jump_standing cells used p ≡ Some i → in_reach i z ≡ true → jump_standing (applied (puts p (words (aimed_at i z))) cells) used p ≡ Some (aimed_at i z)
 unfolding words jump_standing in_reach aimed_at
-put cells used p i z e r = jump-put cells used p i.0 i.1 z e r
+put cells used p i z e r = jump_put cells used p i.0 i.1 z e r
 
 pub jump_laws : JumpLaws
 jump_laws = record {
-  sized = words-sized;
+  sized = words_sized;
   aimed = aimed;
   still = still;
   told = told;

@@ -4,10 +4,10 @@ ghost use Rattle.operands.specs.Ranges.{halved};
 ghost use Rattle.formats.specs.declared.kind.Kind.TheVariants.{B as B-kind};
 ghost use Rattle.jumps.specs.Operands.{B-values, B-fault, B-codes};
 ghost use Rattle.std.proofs.Common.{lit<, ap, sym, subst, rules};
-ghost use Rattle.operands.proofs.Sames.{b_distance_lt, same_num, same-b-distance, b_distance_of, b_distance_of_bits};
+ghost use Rattle.operands.proofs.Sames.{b_distance_lt, same_num, same_b_distance, b_distance_of, b_distance_of_bits};
 ghost use Rattle.formats.specs.declared.kind.Kind.TheVariants as kinds;
 ghost use Rattle.formats.specs.Layouts.{layout};
-ghost use Rattle.formats.proofs.Codes.{narrow, none-wide, none-there};
+ghost use Rattle.formats.proofs.Codes.{narrow, none_wide, none_there};
 ghost use Rattle.formats.proofs.Sound.{fit_of};
 ghost use Rattle.bits.specs.declared.part.Values.{Values};
 ghost use Rattle.bits.specs.declared.part.Field.TheVariants.{D, A, N, M, Opcode, Funct3, Funct};
@@ -48,14 +48,14 @@ impl Format for B {
           funct3 = at (λ v. v.funct3) i;
           rs1 = same_num o.rs1 p.rs1 (at (λ v. v.a)) i;
           rs2 = same_num o.rs2 p.rs2 (at (λ v. v.b)) i;
-          distance = same-b-distance o.distance p.distance (at (λ v. v.n)) i;
+          distance = same_b_distance o.distance p.distance (at (λ v. v.n)) i;
         } };
 
     ghost allowed = { Prim.search rules };
 
     ghost held = { λ v h t.
         let o : BOperands = record { opcode = v.opcode; funct3 = v.funct3; rs1 = record { value = v.a; ok = h A }; rs2 = record { value = v.b; ok = h field_names.B }; distance = b_distance_of v.n (h N) } in
-        (o, (none-wide (B-codes o) (h Opcode, (h Funct3, tt)), λ i. record { d = none-there v.d (h D) i; a = v.a; b = v.b; n = b_distance_of_bits v.n (h N) i; m = none-there v.m (h M) i; opcode = v.opcode; funct3 = v.funct3; funct = none-there v.funct (h Funct) i })) };
+        (o, (none_wide (B-codes o) (h Opcode, (h Funct3, tt)), λ i. record { d = none_there v.d (h D) i; a = v.a; b = v.b; n = b_distance_of_bits v.n (h N) i; m = none_there v.m (h M) i; opcode = v.opcode; funct3 = v.funct3; funct = none_there v.funct (h Funct) i })) };
 
     fn kind_of() -> Kind {
         Kind::B
@@ -121,7 +121,7 @@ impl Reaching for B {
 
     ghost told = { Prim.search rules };
 
-    ghost kept = { λ o p n f e. let c = narrow (B-codes o) f in none-wide (B-codes p) (subst (λ x. x < 128) (sym (ap (λ v. v.opcode) e)) c.0, (subst (λ x. x < 8) (sym (ap (λ v. v.funct3) e)) c.1.0, tt)) };
+    ghost kept = { λ o p n f e. let c = narrow (B-codes o) f in none_wide (B-codes p) (subst (λ x. x < 128) (sym (ap (λ v. v.opcode) e)) c.0, (subst (λ x. x < 8) (sym (ap (λ v. v.funct3) e)) c.1.0, tt)) };
 
     fn least_distance() -> i64 {
         -4096

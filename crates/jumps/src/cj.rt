@@ -7,7 +7,7 @@ ghost use Rattle.std.proofs.Common.{lit<, ap, sym, subst, rules};
 ghost use Rattle.operands.proofs.Sames.{cj_distance_lt, same_cj_distance, cj_distance_of, cj_distance_of_bits};
 ghost use Rattle.formats.specs.declared.kind.Kind.TheVariants as kinds;
 ghost use Rattle.formats.specs.Layouts.{layout};
-ghost use Rattle.formats.proofs.Codes.{narrow, none-wide, none-there};
+ghost use Rattle.formats.proofs.Codes.{narrow, none_wide, none_there};
 ghost use Rattle.formats.proofs.Sound.{fit_of};
 ghost use Rattle.bits.specs.declared.part.Values.{Values};
 ghost use Rattle.bits.specs.declared.part.Field.TheVariants.{D, A, B, N, M, Opcode, Funct3, Funct};
@@ -51,7 +51,7 @@ impl Format for Cj {
 
     ghost held = { λ v h t.
         let o : CjOperands = record { opcode = v.opcode; distance = cj_distance_of v.n (h N); funct3 = v.funct3 } in
-        (o, (none-wide (Cj-codes o) (h Opcode, (h Funct3, tt)), λ i. record { d = none-there v.d (h D) i; a = none-there v.a (h A) i; b = none-there v.b (h B) i; n = cj_distance_of_bits v.n (h N) i; m = none-there v.m (h M) i; opcode = v.opcode; funct3 = v.funct3; funct = none-there v.funct (h Funct) i })) };
+        (o, (none_wide (Cj-codes o) (h Opcode, (h Funct3, tt)), λ i. record { d = none_there v.d (h D) i; a = none_there v.a (h A) i; b = none_there v.b (h B) i; n = cj_distance_of_bits v.n (h N) i; m = none_there v.m (h M) i; opcode = v.opcode; funct3 = v.funct3; funct = none_there v.funct (h Funct) i })) };
 
     fn kind_of() -> Kind {
         Kind::Cj
@@ -117,7 +117,7 @@ impl Reaching for Cj {
 
     ghost told = { Prim.search rules };
 
-    ghost kept = { λ o p n f e. let c = narrow (Cj-codes o) f in none-wide (Cj-codes p) (subst (λ x. x < 4) (sym (ap (λ v. v.opcode) e)) c.0, (subst (λ x. x < 8) (sym (ap (λ v. v.funct3) e)) c.1.0, tt)) };
+    ghost kept = { λ o p n f e. let c = narrow (Cj-codes o) f in none_wide (Cj-codes p) (subst (λ x. x < 4) (sym (ap (λ v. v.opcode) e)) c.0, (subst (λ x. x < 8) (sym (ap (λ v. v.funct3) e)) c.1.0, tt)) };
 
     fn least_distance() -> i64 {
         -2048

@@ -7,7 +7,7 @@ ghost use Rattle.std.proofs.Common.{lit<, ap, sym, subst, rules};
 ghost use Rattle.operands.proofs.Sames.{j_distance_lt, same_num, same_j_distance, j_distance_of, j_distance_of_bits};
 ghost use Rattle.formats.specs.declared.kind.Kind.TheVariants as kinds;
 ghost use Rattle.formats.specs.Layouts.{layout};
-ghost use Rattle.formats.proofs.Codes.{narrow, none-wide, none-there};
+ghost use Rattle.formats.proofs.Codes.{narrow, none_wide, none_there};
 ghost use Rattle.formats.proofs.Sound.{fit_of};
 ghost use Rattle.bits.specs.declared.part.Values.{Values};
 ghost use Rattle.bits.specs.declared.part.Field.TheVariants.{D, A, B, N, M, Opcode, Funct3, Funct};
@@ -52,7 +52,7 @@ impl Format for J {
 
     ghost held = { λ v h t.
         let o : JOperands = record { opcode = v.opcode; rd = record { value = v.d; ok = h D }; distance = j_distance_of v.n (h N) } in
-        (o, (none-wide (J-codes o) (h Opcode, tt), λ i. record { d = v.d; a = none-there v.a (h A) i; b = none-there v.b (h B) i; n = j_distance_of_bits v.n (h N) i; m = none-there v.m (h M) i; opcode = v.opcode; funct3 = none-there v.funct3 (h Funct3) i; funct = none-there v.funct (h Funct) i })) };
+        (o, (none_wide (J-codes o) (h Opcode, tt), λ i. record { d = v.d; a = none_there v.a (h A) i; b = none_there v.b (h B) i; n = j_distance_of_bits v.n (h N) i; m = none_there v.m (h M) i; opcode = v.opcode; funct3 = none_there v.funct3 (h Funct3) i; funct = none_there v.funct (h Funct) i })) };
 
     fn kind_of() -> Kind {
         Kind::J
@@ -111,7 +111,7 @@ impl Reaching for J {
 
     ghost told = { Prim.search rules };
 
-    ghost kept = { λ o p n f e. let c = narrow (J-codes o) f in none-wide (J-codes p) (subst (λ x. x < 128) (sym (ap (λ v. v.opcode) e)) c.0, tt) };
+    ghost kept = { λ o p n f e. let c = narrow (J-codes o) f in none_wide (J-codes p) (subst (λ x. x < 128) (sym (ap (λ v. v.opcode) e)) c.0, tt) };
 
     fn least_distance() -> i64 {
         -1048576

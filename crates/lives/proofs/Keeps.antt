@@ -27,7 +27,7 @@ use Rattle.lives.specs.Listing.{Listing, Mode, end, empty, spot, due, listed}
 use Rattle.lives.specs.Life.{Promise, OnceSealed, Starts, EachHolds}
 use Rattle.lives.specs.Tied.{Tied, Stands, Any, AllStart, Over}
 use Rattle.lives.specs.Tied as tied
-use Rattle.lives.proofs.Standing.{stands-lawful, snoc_plain, snoc_jump, snoc_slot, holds-code, pair_end}
+use Rattle.lives.proofs.Standing.{stands_lawful, snoc_plain, snoc_jump, snoc_slot, holds_code, pair_end}
 
 -- ---- halfwords written behind others
 
@@ -35,9 +35,9 @@ pub take_before : (cells : List ℕ) (k at : ℕ) (ws : List ℕ) → k ≤ at �
 take_before cells k at [] h = refl
 take_before cells k at (w ∷ ws) h = take_before (set cells at w) k (suc at) ws (omega arith) ∙ take-set-le k cells at w h
 
-pub drop-written : (cells : List ℕ) (at : ℕ) (ws : List ℕ) (m : ℕ) → at + length ws ≤ m → drop m (applied (puts at ws) cells) ≡ drop m cells
-drop-written cells at [] m h = refl
-drop-written cells at (w ∷ ws) m h = drop-written (set cells at w) (suc at) ws m (omega arith) ∙ drop-set-lt m cells at w (omega arith)
+pub drop_written : (cells : List ℕ) (at : ℕ) (ws : List ℕ) (m : ℕ) → at + length ws ≤ m → drop m (applied (puts at ws) cells) ≡ drop m cells
+drop_written cells at [] m h = refl
+drop_written cells at (w ∷ ws) m h = drop_written (set cells at w) (suc at) ws m (omega arith) ∙ drop-set-lt m cells at w (omega arith)
 
 pub halfs-append : (is ks : List Item) → halfs (is ++ ks) ≡ halfs is ++ halfs ks
 halfs-append [] ks = refl
@@ -58,9 +58,9 @@ record_before f xs j k y h = ap (map f) (take-set-le j xs k y h)
 pub no_ok : {F : Type 0} {e : F} {u : Unit {0}} → ◌≡◌ {A = Result (Unit {0}) F} (Ok u) (Err e) → ⊥
 no_ok h = let z : ◌≡◌ {A = ℕ} 0 1 = cc in omega arith
 
-pub raised-ok : {F : Type 0} (f : F → Fault) (r : Result (Unit {0}) F) (u : Unit {0}) → Ok u ≡ raised f r → Ok u ≡ r
-raised-ok f (Ok v) u e = ap Ok refl
-raised-ok f (Err x) u e = absurd (no_ok e)
+pub raised_ok : {F : Type 0} (f : F → Fault) (r : Result (Unit {0}) F) (u : Unit {0}) → Ok u ≡ raised f r → Ok u ≡ r
+raised_ok f (Ok v) u e = ap Ok refl
+raised_ok f (Err x) u e = absurd (no_ok e)
 
 -- a test that was passed
 pub passed : {F : Type 0} (t : Bool) (r : Result (Unit {0}) F) (e : F) (u : Unit {0}) → Ok u ≡ cond t r (Err e) → (t ≡ true) × (Ok u ≡ r)
@@ -97,19 +97,19 @@ reaching : (t : Bool) (o : Option JumpFault) (e : JumpFault) → cond t o (Some 
 reaching true o e h = (refl, h)
 reaching false o e h = absurd (let z : ◌≡◌ {A = ℕ} 0 1 = cc in omega arith)
 
-jump-lawful : (t : JumpTo) → jump_fault t.op.place t.d t.a t.b ≡ None → Lawful (jump_item t) × (jumps (jump_item t) ≡ true)
+jump_lawful : (t : JumpTo) → jump_fault t.op.place t.d t.a t.b ≡ None → Lawful (jump_item t) × (jumps (jump_item t) ≡ true)
 unfolding Lawful jumps
-jump-lawful t e =
+jump_lawful t e =
     let ok = reaching (reaches (form_at t.op.place).kind) (as_build (fault (form_at t.op.place) (unaimed t.d t.a t.b))) _ e in
     ((t.op.real, faultless (fault (form_at t.op.place) (unaimed t.d t.a t.b)) ok.1), ok.0)
 
 -- ---- the answer of a call is the listing's
 
-pub due-is : {n : ℕ} {L : Listing} {c : Counts} {b : Book} {cells : List ℕ} → Tied Any n L c b cells → (d : Deed) → answered n c b d ≡ due n L d
-due-is {n} t (Emit i) = ap (λ u. raised life.Emit (emitted n u (item_of i))) t.used
-due-is {n} {L} {c} t (Constant l) = ap (λ u. raised life.Constant (constanted n u c.slots l.d l.value)) t.used ∙ ap (λ k. raised life.Constant (constanted n (end L) k l.d l.value)) t.nslots
-due-is {n} {L} {c} t (Jump j) = ap (λ u. raised life.Jump (jumped n u c.jumps j)) t.used ∙ ap (λ k. raised life.Jump (jumped n (end L) k j)) t.njumps
-due-is {n} {L} {c} t (Bind l) = ap (λ xs. raised life.Bind (bound c.labels xs l)) t.labels ∙ ap (λ k. raised life.Bind (bound k L.labels l)) t.nlabels
+pub due_is : {n : ℕ} {L : Listing} {c : Counts} {b : Book} {cells : List ℕ} → Tied Any n L c b cells → (d : Deed) → answered n c b d ≡ due n L d
+due_is {n} t (Emit i) = ap (λ u. raised life.Emit (emitted n u (item_of i))) t.used
+due_is {n} {L} {c} t (Constant l) = ap (λ u. raised life.Constant (constanted n u c.slots l.d l.value)) t.used ∙ ap (λ k. raised life.Constant (constanted n (end L) k l.d l.value)) t.nslots
+due_is {n} {L} {c} t (Jump j) = ap (λ u. raised life.Jump (jumped n u c.jumps j)) t.used ∙ ap (λ k. raised life.Jump (jumped n (end L) k j)) t.njumps
+due_is {n} {L} {c} t (Bind l) = ap (λ xs. raised life.Bind (bound c.labels xs l)) t.labels ∙ ap (λ k. raised life.Bind (bound k L.labels l)) t.nlabels
 
 -- ---- the tie after a taken call
 
@@ -146,7 +146,7 @@ module _ {n : ℕ} {L : Listing} {c : Counts} {b : Book} {cells : List ℕ} (t :
   emit_tied : (i : _) (u : Unit {0}) → Ok u ≡ answered n c b (Emit i) → Tied Any n (listed L (Emit i)) (counts_by (Emit i) c) (book_by (Emit i) c b) (cells_by (Emit i) c cells)
   emit_tied i u a =
       let ws = words (item_of i) in
-      let ok = missed (jumps (item_of i)) _ _ u (raised-ok life.Emit (emitted n c.used (item_of i)) u a) in
+      let ok = missed (jumps (item_of i)) _ _ u (raised_ok life.Emit (emitted n c.used (item_of i)) u a) in
       let room = passed (leb (c.used + length ws) n) (Ok tt) _ u ok.1 in
       let more = code_more t (item_of i ∷ []) ws (one_item (item_of i)) (leb-true _ _ room.0) in
       record {
@@ -171,7 +171,7 @@ module _ {n : ℕ} {L : Listing} {c : Counts} {b : Book} {cells : List ℕ} (t :
       let d = l.d in
       let v = l.value in
       let ks = upper d v ∷ lower d v ∷ [] in
-      let ok₁ = passed (register_ok d) _ _ u (raised-ok life.Constant (constanted n c.used c.slots d v) u a) in
+      let ok₁ = passed (register_ok d) _ _ u (raised_ok life.Constant (constanted n c.used c.slots d v) u a) in
       let ok₂ = passed (makeable v) _ _ u ok₁.1 in
       let ok₃ = passed (ltb c.slots 32) _ _ u ok₂.1 in
       let room₁ = passed (leb (c.used + 4) n) (Ok tt) _ u ok₃.1 in
@@ -203,12 +203,12 @@ module _ {n : ℕ} {L : Listing} {c : Counts} {b : Book} {cells : List ℕ} (t :
       let i = jump_item j in
       let ws = words i in
       let m = label_number j.label in
-      let ok₁ = fault_passed (jump_fault j.op.place j.d j.a j.b) _ u (raised-ok life.Jump (jumped n c.used c.jumps j) u a) in
+      let ok₁ = fault_passed (jump_fault j.op.place j.d j.a j.b) _ u (raised_ok life.Jump (jumped n c.used c.jumps j) u a) in
       let ok₂ = label_passed j.label (known_label j.label) _ u ok₁.1 in
       let ok₃ = passed (ltb c.jumps 128) _ _ u ok₂ in
       let ok₄ = passed (leb (c.used + length ws) n) (Ok tt) _ u ok₃.1 in
       let more = code_more t (i ∷ []) ws (one_item i) (leb-true _ _ ok₄.0) in
-      let law = jump-lawful j ok₁.0 in
+      let law = jump_lawful j ok₁.0 in
       let room : c.jumps < length b.jumps = (let e = t.jump_room in let h : c.jumps < 128 = ltb-true _ _ ok₃.0 in omega arith) in
       record {
         whole = length-applied (puts c.used ws) cells ∙ t.whole;
@@ -232,7 +232,7 @@ module _ {n : ℕ} {L : Listing} {c : Counts} {b : Book} {cells : List ℕ} (t :
   bind_tied : (l : ℤ) (u : Unit {0}) → Ok u ≡ answered n c b (Bind l) → Tied Any n (listed L (Bind l)) (counts_by (Bind l) c) (book_by (Bind l) c b) (cells_by (Bind l) c cells)
   bind_tied l u a =
       let m = label_number l in
-      let few = bound_passed c.labels l (labels_in c b) (known_label l) u (raised-ok life.Bind (bound c.labels (labels_in c b) l) u a) in
+      let few = bound_passed c.labels l (labels_in c b) (known_label l) u (raised_ok life.Bind (bound c.labels (labels_in c b) l) u a) in
       let room : c.labels < length b.labels = (let e = t.label_room in omega arith) in
       record {
         whole = t.whole;
@@ -261,13 +261,13 @@ module _ {n : ℕ} {L : Listing} {c : Counts} {b : Book} {cells : List ℕ} (t :
 
   -- nothing is altered past the end
   pub deed_beyond : (d : Deed) (u : Unit {0}) → Ok u ≡ answered n c b d → drop (end (listed L d)) (cells_by d c cells) ≡ drop (end (listed L d)) cells
-  deed_beyond (Emit i) u a = let e = (deed_tied (Emit i) u a).used in drop-written cells c.used (words_by (Emit i)) _ (omega arith)
+  deed_beyond (Emit i) u a = let e = (deed_tied (Emit i) u a).used in drop_written cells c.used (words_by (Emit i)) _ (omega arith)
   deed_beyond (Constant l) u a =
       let e = (deed_tied (Constant l) u a).used in
       let f = pair_end l.d l.value [] in
       let g = ap length (two_items l.d l.value) in
-      drop-written cells c.used (words_by (Constant l)) _ (omega arith)
-  deed_beyond (Jump j) u a = let e = (deed_tied (Jump j) u a).used in drop-written cells c.used (words_by (Jump j)) _ (omega arith)
+      drop_written cells c.used (words_by (Constant l)) _ (omega arith)
+  deed_beyond (Jump j) u a = let e = (deed_tied (Jump j) u a).used in drop_written cells c.used (words_by (Jump j)) _ (omega arith)
   deed_beyond (Bind l) u a = refl
 
   -- nor before it
@@ -329,10 +329,10 @@ promised {P} {n} {L} {c} {b} {cells} m t q =
     let code : take (end L) cells ≡ halfs L.code = subst (λ k. take k cells ≡ halfs L.code) t.used t.code in
     record {
       code = code;
-      lawful = stands-lawful t.stands;
-      only = λ is e. item_laws.once is L.code (stands-lawful t.stands) (e ∙ code);
+      lawful = stands_lawful t.stands;
+      only = λ is e. item_laws.once is L.code (stands_lawful t.stands) (e ∙ code);
       leads = q;
-      slots = subst (λ xs. EachHolds xs L.slots) (sym (split t)) (holds-code t.stands [] (drop c.used cells) refl);
+      slots = subst (λ xs. EachHolds xs L.slots) (sym (split t)) (holds_code t.stands [] (drop c.used cells) refl);
     }
 
 -- nothing listed, whatever store and book hold

@@ -16,26 +16,26 @@ pub no_some : {A : Type 0} {d : A} → ◌≡◌ {A = Option A} None (Some d) �
 no_some h = let z : ◌≡◌ {A = ℕ} 0 1 = cc in omega arith
 
 -- a pair, and what follows it
-pub pair-length : (d v : ℤ) (xs : List ℕ) → length (pair d v ++ xs) ≡ 4 + length xs
-pair-length d v xs =
+pub pair_length : (d v : ℤ) (xs : List ℕ) → length (pair d v ++ xs) ≡ 4 + length xs
+pair_length d v xs =
     let a = length-append (pair d v) xs in
     let b = length-append (words (upper d v)) (words (lower d v)) in
     let u = pair_laws.upper_two d v in
     let l = pair_laws.lower_two d v in
     omega arith
 
-pub pair-halfs : (d v : ℤ) (is : List Item) → halfs (upper d v ∷ lower d v ∷ is) ≡ pair d v ++ halfs is
-pair-halfs d v is = sym (append_assoc (words (upper d v)) (words (lower d v)) (halfs is))
+pub pair_halfs : (d v : ℤ) (is : List Item) → halfs (upper d v ∷ lower d v ∷ is) ≡ pair d v ++ halfs is
+pair_halfs d v is = sym (append_assoc (words (upper d v)) (words (lower d v)) (halfs is))
 
 pub pair_end : (d v : ℤ) (is : List Item) → length (halfs (upper d v ∷ lower d v ∷ is)) ≡ 4 + length (halfs is)
-pair_end d v is = ap length (pair-halfs d v is) ∙ pair-length d v (halfs is)
+pair_end d v is = ap length (pair_halfs d v is) ∙ pair_length d v (halfs is)
 
 module _ {P : ℕ × ℕ → ℤ → Type 0} where
-  pub stands-lawful : {at : ℕ} {is : List Item} {js : List (ℕ × ℕ)} {ss : List Slot} → Stands P at is js ss → AllLawful is
-  stands-lawful none = tt
-  stands-lawful (some i is w p s) = (w, stands-lawful s)
-  stands-lawful (jump l i is js w p q s) = (w, stands-lawful s)
-  stands-lawful (slot d v is ss r m s) = (pair_laws.upper_lawful d v r m, (pair_laws.lower_lawful d v r m, stands-lawful s))
+  pub stands_lawful : {at : ℕ} {is : List Item} {js : List (ℕ × ℕ)} {ss : List Slot} → Stands P at is js ss → AllLawful is
+  stands_lawful none = tt
+  stands_lawful (some i is w p s) = (w, stands_lawful s)
+  stands_lawful (jump l i is js w p q s) = (w, stands_lawful s)
+  stands_lawful (slot d v is ss r m s) = (pair_laws.upper_lawful d v r m, (pair_laws.lower_lawful d v r m, stands_lawful s))
 
   pub snoc_plain : {at : ℕ} {is : List Item} {js : List (ℕ × ℕ)} {ss : List Slot} → Stands P at is js ss → (i : Item) → Lawful i → jumps i ≡ false → Stands P at (is ++ (i ∷ [])) js ss
   snoc_plain none i w p = some i [] w p none
@@ -81,35 +81,35 @@ longer_pair pre d v at e =
 
 -- the halfwords of a pair and of the items behind it
 pub re_pair : (pre : List ℕ) (d v : ℤ) (is : List Item) (post : List ℕ) → pre ++ (halfs (upper d v ∷ lower d v ∷ is) ++ post) ≡ (pre ++ pair d v) ++ (halfs is ++ post)
-re_pair pre d v is post = ap (λ xs. pre ++ (xs ++ post)) (pair-halfs d v is) ∙ re pre (pair d v) (halfs is) post
+re_pair pre d v is post = ap (λ xs. pre ++ (xs ++ post)) (pair_halfs d v is) ∙ re pre (pair d v) (halfs is) post
 
-pub holds-code : {P : ℕ × ℕ → ℤ → Type 0} {at : ℕ} {is : List Item} {js : List (ℕ × ℕ)} {ss : List Slot} → Stands P at is js ss → (pre post : List ℕ) → length pre ≡ at → EachHolds (pre ++ (halfs is ++ post)) ss
-holds-code none pre post e = tt
-holds-code {P} {at} {js} {ss} (some i is w p s) pre post e =
-    subst (λ xs. EachHolds xs ss) (sym (re pre (words i) (halfs is) post)) (holds-code s (pre ++ words i) post (longer pre (words i) at e))
-holds-code {P} {at} {ss} (jump l i is js w p q s) pre post e =
-    subst (λ xs. EachHolds xs ss) (sym (re pre (words i) (halfs is) post)) (holds-code s (pre ++ words i) post (longer pre (words i) at e))
-holds-code {P} {at} {js} (slot d v is ss r m s) pre post e =
+pub holds_code : {P : ℕ × ℕ → ℤ → Type 0} {at : ℕ} {is : List Item} {js : List (ℕ × ℕ)} {ss : List Slot} → Stands P at is js ss → (pre post : List ℕ) → length pre ≡ at → EachHolds (pre ++ (halfs is ++ post)) ss
+holds_code none pre post e = tt
+holds_code {P} {at} {js} {ss} (some i is w p s) pre post e =
+    subst (λ xs. EachHolds xs ss) (sym (re pre (words i) (halfs is) post)) (holds_code s (pre ++ words i) post (longer pre (words i) at e))
+holds_code {P} {at} {ss} (jump l i is js w p q s) pre post e =
+    subst (λ xs. EachHolds xs ss) (sym (re pre (words i) (halfs is) post)) (holds_code s (pre ++ words i) post (longer pre (words i) at e))
+holds_code {P} {at} {js} (slot d v is ss r m s) pre post e =
     let cells = pre ++ (halfs (upper d v ∷ lower d v ∷ is) ++ post) in
     let split : cells ≡ pre ++ (pair d v ++ (halfs is ++ post)) = re_pair pre d v is post ∙ append_assoc pre (pair d v) (halfs is ++ post) in (
       subst (λ k. held_at cells k ≡ v) e (ap (λ xs. held_at xs (length pre)) split ∙ pair_laws.holds d v pre (halfs is ++ post) r m),
-      subst (λ xs. EachHolds xs ss) (sym (re_pair pre d v is post)) (holds-code s (pre ++ pair d v) post (longer_pair pre d v at e)),
+      subst (λ xs. EachHolds xs ss) (sym (re_pair pre d v is post)) (holds_code s (pre ++ pair d v) post (longer_pair pre d v at e)),
     )
 
 -- ---- a slot given another value
 
-pub slot-inside : {P : ℕ × ℕ → ℤ → Type 0} {at : ℕ} {is : List Item} {js : List (ℕ × ℕ)} {ss : List Slot} → Stands P at is js ss → (k : ℕ) (x : Slot) → slice_get ss k ≡ Some x →
+pub slot_inside : {P : ℕ × ℕ → ℤ → Type 0} {at : ℕ} {is : List Item} {js : List (ℕ × ℕ)} {ss : List Slot} → Stands P at is js ss → (k : ℕ) (x : Slot) → slice_get ss k ≡ Some x →
     (at ≤ x.place) × (x.place + 4 ≤ at + length (halfs is)) × (register_ok x.register ≡ true)
-slot-inside none k x e = absurd (no_some e)
-slot-inside {P} {at} (some i is w p s) k x e = let h = slot-inside s k x e in let a = length-append (words i) (halfs is) in let b = h.0 in let c = h.1 in (omega arith, omega arith, h.2)
-slot-inside {P} {at} (jump l i is js w p q s) k x e = let h = slot-inside s k x e in let a = length-append (words i) (halfs is) in let b = h.0 in let c = h.1 in (omega arith, omega arith, h.2)
-slot-inside {P} {at} (slot d v is ss r m s) zero x e =
+slot_inside none k x e = absurd (no_some e)
+slot_inside {P} {at} (some i is w p s) k x e = let h = slot_inside s k x e in let a = length-append (words i) (halfs is) in let b = h.0 in let c = h.1 in (omega arith, omega arith, h.2)
+slot_inside {P} {at} (jump l i is js w p q s) k x e = let h = slot_inside s k x e in let a = length-append (words i) (halfs is) in let b = h.0 in let c = h.1 in (omega arith, omega arith, h.2)
+slot_inside {P} {at} (slot d v is ss r m s) zero x e =
     let w : record { place = at; register = d; value = v } ≡ x = cc in
     let p : at ≡ x.place = ap (λ y. y.place) w in
     let q : d ≡ x.register = ap (λ y. y.register) w in
     let a = pair_end d v is in
     (omega arith, omega arith, subst (λ z. register_ok z ≡ true) q r)
-slot-inside {P} {at} (slot d v is ss r m s) (suc k) x e = let h = slot-inside s k x e in let a = pair_end d v is in let b = h.0 in let c = h.1 in (omega arith, omega arith, h.2)
+slot_inside {P} {at} (slot d v is ss r m s) (suc k) x e = let h = slot_inside s k x e in let a = pair_end d v is in let b = h.0 in let c = h.1 in (omega arith, omega arith, h.2)
 
 skip : (p : ℕ) (d v : ℤ) (at : ℕ) (i : Item) (is : List Item) → at < p → with_pair p d v at (i ∷ is) ≡ i ∷ with_pair p d v (at + length (words i)) is
 skip p d v at i is h = ap (λ t. cond t (upper d v ∷ lower d v ∷ drop 1 is) (i ∷ with_pair p d v (at + length (words i)) is)) (ne_eqb p at (λ e. omega arith))
@@ -154,8 +154,8 @@ past {P} {at} i {is} {js} {js₁} {ss} {k} {w} {x} h f r =
 
 pub give : {P : ℕ × ℕ → ℤ → Type 0} {at : ℕ} {is : List Item} {js : List (ℕ × ℕ)} {ss : List Slot} → Stands P at is js ss → (k : ℕ) (w : ℤ) (x : Slot) → slice_get ss k ≡ Some x → makeable w ≡ true → Given P at is js ss k w x
 give none k w x e h = absurd (no_some e)
-give {P} {at} (some i is f p s) k w x e h = past i (let a = (slot-inside s k x e).0 in let b = item_laws.some i in omega arith) (λ ks ts t. some i ks f p t) (give s k w x e h)
-give {P} {at} (jump l i is js f p q s) k w x e h = past i (let a = (slot-inside s k x e).0 in let b = item_laws.some i in omega arith) (λ ks ts t. jump l i ks js f p q t) (give s k w x e h)
+give {P} {at} (some i is f p s) k w x e h = past i (let a = (slot_inside s k x e).0 in let b = item_laws.some i in omega arith) (λ ks ts t. some i ks f p t) (give s k w x e h)
+give {P} {at} (jump l i is js f p q s) k w x e h = past i (let a = (slot_inside s k x e).0 in let b = item_laws.some i in omega arith) (λ ks ts t. jump l i ks js f p q t) (give s k w x e h)
 give {P} {at} {js} (slot d v is ss r m s) zero w x e h =
     let y : Slot = record { place = at; register = d; value = v } in
     let q : y ≡ x = cc in
@@ -175,7 +175,7 @@ give {P} {at} {js} (slot d v is ss r m s) zero w x e h =
     })
 give {P} {at} {js} (slot d v is ss r m s) (suc k) w x e h =
     let g = give s k w x e h in
-    let a : at + 4 ≤ x.place = (slot-inside s k x e).0 in
+    let a : at + 4 ≤ x.place = (slot_inside s k x e).0 in
     let u = pair_laws.upper_two d v in
     let l = pair_laws.lower_two d v in
     let four : at + length (words (upper d v)) + length (words (lower d v)) ≡ at + 4 = omega arith in
@@ -221,9 +221,9 @@ same_length is js e =
     let c = same_count is js e in
     ap (λ xs. length (halfs xs)) (sym (take_all n is (omega arith))) ∙ same_front is js e n ∙ ap (λ xs. length (halfs xs)) (take_all n js (omega arith))
 
-pub same-starts : (is js : List Item) → sizes is ≡ sizes js → (q : ℕ) → Starts is q → Starts js q
-same-starts is js e q s = (s.0, (let a = s.1 in let c = same_count is js e in omega arith), sym (same_front is js e s.0) ∙ s.2)
+pub same_starts : (is js : List Item) → sizes is ≡ sizes js → (q : ℕ) → Starts is q → Starts js q
+same_starts is js e q s = (s.0, (let a = s.1 in let c = same_count is js e in omega arith), sym (same_front is js e s.0) ∙ s.2)
 
-pub all_same-starts : (is js : List Item) → sizes is ≡ sizes js → (ls : List (ℕ × ℕ)) → AllStart is ls → AllStart js ls
-all_same-starts is js e [] s = tt
-all_same-starts is js e (l ∷ ls) s = (same-starts is js e l.1 s.0, all_same-starts is js e ls s.1)
+pub all_same_starts : (is js : List Item) → sizes is ≡ sizes js → (ls : List (ℕ × ℕ)) → AllStart is ls → AllStart js ls
+all_same_starts is js e [] s = tt
+all_same_starts is js e (l ∷ ls) s = (same_starts is js e l.1 s.0, all_same_starts is js e ls s.1)

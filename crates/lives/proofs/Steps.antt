@@ -17,7 +17,7 @@ use Rattle.lives.specs.Deeds.{Verdict, told, answered, counts_by, book_by, puts_
 use Rattle.lives.specs.Listing.{Listing, Stage, free, trying, closed, empty, judged, listed}
 use Rattle.lives.specs.Life.{Run, made, then, call_of}
 use Rattle.lives.specs.Tied.{OpenAt, TryAt, SealedAt}
-use Rattle.lives.proofs.Keeps.{due-is, deed_tied, deed_beyond, deed_before, deed_saved, deed_over, over_self, promised, bare}
+use Rattle.lives.proofs.Keeps.{due_is, deed_tied, deed_beyond, deed_before, deed_saved, deed_over, over_self, promised, bare}
 
 -- a fact of three things, at three equal to them
 pub at_equals : {A B C : Type 0} (P : A → B → C → Type 0) {a a₁ : A} {b b₁ : B} {c c₁ : C} → a₁ ≡ a → b₁ ≡ b → c₁ ≡ c → P a b c → P a₁ b₁ c₁
@@ -35,11 +35,11 @@ module _ {n : List ℕ} {es : List Entry} {c : Counts} {b : Book} {cells : List 
       let a : Ok u ≡ answered (length n) c b d = a₀ ∙ ap (λ k. answered k c b d) o.2.whole in
       let t₁ = deed_tied o.2 d u a in
       at_equals (λ x y z. OpenAt n (es ++ (entry (Do d) Taken ∷ [])) x y z) ec eb es₁
-      (listed o.0 d, then o.1 (Do d) Taken (ap told (a ∙ due-is o.2 d)) (deed_beyond o.2 d u a) (deed_before o.2 d) (promised free t₁ tt), t₁)
+      (listed o.0 d, then o.1 (Do d) Taken (ap told (a ∙ due_is o.2 d)) (deed_beyond o.2 d u a) (deed_before o.2 d) (promised free t₁ tt), t₁)
   deed_open o d (Err e) a₀ ec eb es₁ =
       let a : Err e ≡ answered (length n) c b d = a₀ ∙ ap (λ k. answered k c b d) o.2.whole in
       at_equals (λ x y z. OpenAt n (es ++ (entry (Do d) (Refused e) ∷ [])) x y z) ec eb es₁
-      (o.0, then o.1 (Do d) (Refused e) (ap told (a ∙ due-is o.2 d)) refl refl (promised free o.2 tt), o.2)
+      (o.0, then o.1 (Do d) (Refused e) (ap told (a ∙ due_is o.2 d)) refl refl (promised free o.2 tt), o.2)
 
   pub deed_try : {saved : Counts} → TryAt n es c saved b cells → (d : Deed) (r : Verdict) {c₁ : Counts} {b₁ : Book} {cells₁ : List ℕ} →
       r ≡ answered (length cells) c b d → c₁ ≡ when r (counts_by d c) c → b₁ ≡ when r (book_by d c b) b → cells₁ ≡ applied (when r (puts_by d c) []) cells →
@@ -48,11 +48,11 @@ module _ {n : List ℕ} {es : List Entry} {c : Counts} {b : Book} {cells : List 
       let a : Ok u ≡ answered (length n) c b d = a₀ ∙ ap (λ k. answered k c b d) o.3.whole in
       let t₁ = deed_tied o.3 d u a in
       at_equals (λ x y z. TryAt n (es ++ (entry (Do d) Taken ∷ [])) x saved y z) ec eb es₁
-      (listed o.0 d, o.1, then o.2 (Do d) Taken (ap told (a ∙ due-is o.3 d)) (deed_beyond o.3 d u a) (deed_before o.3 d) (promised (trying o.1) t₁ tt), t₁, deed_saved o.4 o.5 d, deed_over o.5 d)
+      (listed o.0 d, o.1, then o.2 (Do d) Taken (ap told (a ∙ due_is o.3 d)) (deed_beyond o.3 d u a) (deed_before o.3 d) (promised (trying o.1) t₁ tt), t₁, deed_saved o.4 o.5 d, deed_over o.5 d)
   deed_try {saved} o d (Err e) a₀ ec eb es₁ =
       let a : Err e ≡ answered (length n) c b d = a₀ ∙ ap (λ k. answered k c b d) o.3.whole in
       at_equals (λ x y z. TryAt n (es ++ (entry (Do d) (Refused e) ∷ [])) x saved y z) ec eb es₁
-      (o.0, o.1, then o.2 (Do d) (Refused e) (ap told (a ∙ due-is o.3 d)) refl refl (promised (trying o.1) o.3 tt), o.3, o.4, o.5)
+      (o.0, o.1, then o.2 (Do d) (Refused e) (ap told (a ∙ due_is o.3 d)) refl refl (promised (trying o.1) o.3 tt), o.3, o.4, o.5)
 
   pub tries : OpenAt n es c b cells → TryAt n (es ++ (entry Try Taken ∷ [])) c c b cells
   tries o = (o.0, o.0, then o.1 Try Taken refl refl refl (promised (trying o.0) o.2 tt), o.2, o.2, over_self c)

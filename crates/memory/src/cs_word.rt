@@ -5,10 +5,10 @@ ghost use Rattle.memory.specs.Operands.{CsWord-values, CsWord-fault, CsWord-code
 ghost use Rattle.std.proofs.Common.{lit<, ap, rules};
 ghost use Rattle.formats.specs.declared.kind.Kind.TheVariants as kinds;
 ghost use Rattle.formats.specs.Layouts.{layout};
-ghost use Rattle.formats.proofs.Codes.{narrow, none-wide, none-there};
+ghost use Rattle.formats.proofs.Codes.{narrow, none_wide, none_there};
 ghost use Rattle.formats.proofs.Sound.{fit_of};
 ghost use Rattle.bits.specs.declared.part.Values.{Values};
-ghost use Rattle.operands.proofs.Sames.{same-short, same_uimm5};
+ghost use Rattle.operands.proofs.Sames.{same_short, same_uimm5};
 ghost use Rattle.bits.specs.declared.part.Field.TheVariants.{D, A, B, N, M, Opcode, Funct3, Funct};
 ghost use Rattle.memory.specs.declared.operands_of.CsWordOperands.{CsWordOperands};
 
@@ -42,8 +42,8 @@ impl Format for CsWord {
         let at : (f : Values → ℕ) → f (CsWord-values o) ≡ f (CsWord-values p) = λ f. ap f e in
         λ i. record {
           opcode = at (λ v. v.opcode) i;
-          src = same-short o.src p.src (at (λ v. v.b)) i;
-          base = same-short o.base p.base (at (λ v. v.a)) i;
+          src = same_short o.src p.src (at (λ v. v.b)) i;
+          base = same_short o.base p.base (at (λ v. v.a)) i;
           imm = same_uimm5 o.imm p.imm (at (λ v. v.n)) i;
           funct3 = at (λ v. v.funct3) i;
         } };
@@ -52,7 +52,7 @@ impl Format for CsWord {
 
     ghost held = { λ v h t.
         let o : CsWordOperands = record { opcode = v.opcode; src = record { value = v.b; ok = h B }; base = record { value = v.a; ok = h A }; imm = record { value = v.n; ok = h N }; funct3 = v.funct3 } in
-        (o, (none-wide (CsWord-codes o) (h Opcode, (h Funct3, tt)), λ i. record { d = none-there v.d (h D) i; a = v.a; b = v.b; n = v.n; m = none-there v.m (h M) i; opcode = v.opcode; funct3 = v.funct3; funct = none-there v.funct (h Funct) i })) };
+        (o, (none_wide (CsWord-codes o) (h Opcode, (h Funct3, tt)), λ i. record { d = none_there v.d (h D) i; a = v.a; b = v.b; n = v.n; m = none_there v.m (h M) i; opcode = v.opcode; funct3 = v.funct3; funct = none_there v.funct (h Funct) i })) };
 
     fn kind_of() -> Kind {
         Kind::CsWord

@@ -4,7 +4,7 @@ use lib.Signed.{mag}
 use Rattle.std.proofs.lemmas.Bool.Decides.{nat_tests}
 use Rattle.std.proofs.lemmas.Int.{ints}
 use Rattle.bits.specs.Twos.{twos, signed}
-use Rattle.bits.proofs.Twos.{twos-pos, twos-neg, twos-lt, even, signed-twos, twos-signed}
+use Rattle.bits.proofs.Twos.{twos-pos, twos-neg, twos_lt, even, signed-twos, twos-signed}
 use Rattle.operands.specs.Ranges.{InReach, halved}
 
 -- from -2 ^ k to 2 ^ k - 1
@@ -29,8 +29,8 @@ pub reach_near : (k : ℕ) (z : ℤ) → Reach k z → mag z + mag z < 2 ^ suc k
 reach_near k (pos n) h = let p = pow_pos k in let e = even k in let a = h.0 in let b = h.1 in grind (arith, nat_tests, ints)
 reach_near k (negsuc n) h = let p = pow_pos k in let e = even k in let a = h.0 in let b = h.1 in grind (arith, nat_tests, ints)
 
-pub halved-lt : (k : ℕ) (z : ℤ) → Reach k z → halved k z < 2 ^ k
-halved-lt k z h = let l = twos-lt (suc k) z (reach_near k z h) in let e = even k in omega arith
+pub halved_lt : (k : ℕ) (z : ℤ) → Reach k z → halved k z < 2 ^ k
+halved_lt k z h = let l = twos_lt (suc k) z (reach_near k z h) in let e = even k in omega arith
 
 -- an even number's two's complement is even
 even_twos : (k : ℕ) (z : ℤ) → Reach k z → twos (suc k) z % 2 ≡ 0
@@ -52,8 +52,8 @@ one_distance k a b ha hb e =
 pub in_reach : (k n : ℕ) → n < 2 ^ suc k → Reach (suc k) (signed (suc (suc k)) (2 * n))
 in_reach k n h = let p = pow_pos k in let e = even k in let f = even (suc k) in grind (arith, nat_tests, ints)
 
-pub halved-signed : (k n : ℕ) → n < 2 ^ k → halved k (signed (suc k) (2 * n)) ≡ n
-halved-signed k n h =
+pub halved_signed : (k n : ℕ) → n < 2 ^ k → halved k (signed (suc k) (2 * n)) ≡ n
+halved_signed k n h =
     let e = even k in
     let t = twos-signed (suc k) (2 * n) (omega arith) in
     omega arith

@@ -5,12 +5,12 @@ use Rattle.std.proofs.lemmas.List.{get_or-map}
 use Rattle.operations.specs.declared.row.Row.{Row}
 use Rattle.operations.specs.Manual.{Entry, operations, entry_of, no_entry, count}
 
-pub operations-length : length operations ≡ count
+pub operations_length : length operations ≡ count
 unfolding operations
-operations-length = refl
+operations_length = refl
 
-pub rows-length : (rows : List Row) → map entry_of rows ≡ operations → length rows ≡ count
-rows-length rows e = sym (length-map rows entry_of) ∙ ap length e ∙ operations-length
+pub rows_length : (rows : List Row) → map entry_of rows ≡ operations → length rows ≡ count
+rows_length rows e = sym (length-map rows entry_of) ∙ ap length e ∙ operations_length
 
 pub row_at : (rows : List Row) → map entry_of rows ≡ operations → (i : ℕ) (d : Row) → i < length rows → entry_of (get_or rows i d) ≡ get_or operations i no_entry
 row_at rows e i d h = sym (get_or-map entry_of rows i d no_entry h) ∙ ap (λ (xs : List Entry). get_or xs i no_entry) e

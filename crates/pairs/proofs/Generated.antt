@@ -4,18 +4,18 @@ use Rattle.operands.specs.Ranges.{Makeable, made}
 use Rattle.operands.specs.declared.imms.Imm12.{Imm12}
 use Rattle.operands.specs.declared.imms.Imm20.{Imm20}
 use Rattle.pairs.specs.Pairs.{makeable, high_of, low_of, pair_of, pair}
-use Rattle.pairs.proofs.Parts.{makeable_yes, pair-makes}
+use Rattle.pairs.proofs.Parts.{makeable_yes, pair_makes}
 
 -- where it answers a pair, the number can be made, and the pair is its two parts
 module _ (v : ℤ) (h : Imm20) (l : Imm12) (e : made h.value l.value ≡ v) where
   pub generated_makeable : makeable v ≡ true
-  generated_makeable = ap makeable (sym e) ∙ pair-makes.made_is h.value l.value h.ok l.ok
+  generated_makeable = ap makeable (sym e) ∙ pair_makes.made_is h.value l.value h.ok l.ok
 
   pub generated_high : h.value ≡ high_of v
-  generated_high = ((pair-makes.at v generated_makeable).only h.value l.value h.ok l.ok e).0
+  generated_high = ((pair_makes.at v generated_makeable).only h.value l.value h.ok l.ok e).0
 
   pub generated_low : l.value ≡ low_of v
-  generated_low = ((pair-makes.at v generated_makeable).only h.value l.value h.ok l.ok e).1
+  generated_low = ((pair_makes.at v generated_makeable).only h.value l.value h.ok l.ok e).1
 
   pub generated_pair : (rd : ℤ) → pair_of rd h.value l.value ≡ pair rd v
   generated_pair rd = ap₂ (pair_of rd) generated_high generated_low

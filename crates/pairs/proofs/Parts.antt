@@ -9,8 +9,8 @@ use Rattle.pairs.specs.Pairs.{makeable, low_of, high_of, PairMakesAt, PairMakes}
 pub makeable_yes : (v : ℤ) → makeable v ≡ true → Makeable v
 makeable_yes v t = (grind (arith, ints, nat_tests), grind (arith, ints, nat_tests))
 
-made-makeable : (h l : ℤ) → Within20 h → Within12 l → makeable (made h l) ≡ true
-made-makeable h l wh wl = grind (arith, ints, nat_tests)
+made_makeable : (h l : ℤ) → Within20 h → Within12 l → makeable (made h l) ≡ true
+made_makeable h l wh wl = grind (arith, ints, nat_tests)
 
 -- ---- one pair
 
@@ -52,8 +52,8 @@ some v w =
     from n e =
         (pos (n / 4096) -ℤ pos 524288, (pos (n % 4096) -ℤ pos 2048, ((omega (arith, ints), omega (arith, ints)), (omega (arith, ints), omega (arith, ints)), omega (arith, ints))))
 
-makes-at : (v : ℤ) → makeable v ≡ true → PairMakesAt v
-makes-at v t =
+makes_at : (v : ℤ) → makeable v ≡ true → PairMakesAt v
+makes_at v t =
     let p = some v (makeable_yes v t) in
     let h = p.0 in
     let l = p.1.0 in
@@ -69,5 +69,5 @@ makes-at v t =
       only = λ g m wg wm q. (sym (high_one v g m wg wm q), sym (low_one v g m wm q));
     }
 
-pub pair-makes : PairMakes
-pair-makes = record { at = makes-at; made_is = made-makeable }
+pub pair_makes : PairMakes
+pair_makes = record { at = makes_at; made_is = made_makeable }

@@ -4,7 +4,7 @@ use Rattle.std.proofs.lemmas.List.{append-nil, drop_all, drop-drop, drop_more, g
 use Rattle.std.proofs.lemmas.Bool.{cond-true, cond-false, cond_both, eq-eqb, ne_eqb}
 use Rattle.text.specs.Decimal.{digits}
 use Rattle.text.specs.Written.{hex}
-use Rattle.text.proofs.Numerals.{length-digits-le}
+use Rattle.text.proofs.Numerals.{length-digits_le}
 use Rattle.text.proofs.Overwritten.{length-hex}
 use Rattle.printing.specs.Printed.{comma, newline, word_row, printed, fault_text}
 use Rattle.printing.specs.Words.{halves_of, word_from, word_at, row_of}
@@ -28,8 +28,8 @@ length_row place count word =
     omega (arith, length-append (a ++ comma ++ h) newline, length-append (a ++ comma) h, length-append a comma, length-hex count word)
 
 -- a fault's text is short
-pub fault-fits : (line number : ℕ) → line < 10 ^ 10 → number < 10 ^ 10 → length (fault_text line number) ≤ 33
-fault-fits line number l n =
+pub fault_fits : (line number : ℕ) → line < 10 ^ 10 → number < 10 ^ 10 → length (fault_text line number) ≤ 33
+fault_fits line number l n =
     let h = codes "line,fault" ++ newline in
     omega (
       arith,
@@ -37,22 +37,22 @@ fault-fits line number l n =
       length-append (h ++ digits line ++ comma) (digits number),
       length-append (h ++ digits line) comma,
       length-append h (digits line),
-      length-digits-le 10 line (omega arith) l,
-      length-digits-le 10 number (omega arith) n,
+      length-digits_le 10 line (omega arith) l,
+      length-digits_le 10 number (omega arith) n,
     )
 
 -- the word that stands first, its line, and what follows
-printed-from : (place x : ℕ) (hs : List ℕ) → printed place (x ∷ hs) ≡ row_of place (word_from x hs) ++ printed (place + halves_of (word_from x hs)) (drop (halves_of (word_from x hs)) (x ∷ hs))
-printed-from place x [] = sym (append-nil (word_row place 4 x))
-printed-from place x (y ∷ hs) =
+printed_from : (place x : ℕ) (hs : List ℕ) → printed place (x ∷ hs) ≡ row_of place (word_from x hs) ++ printed (place + halves_of (word_from x hs)) (drop (halves_of (word_from x hs)) (x ∷ hs))
+printed_from place x [] = sym (append-nil (word_row place 4 x))
+printed_from place x (y ∷ hs) =
     elim (eqb (x % 4) 3) as (λ b. cond b (word_row place 8 (y * 65536 + x) ++ printed (place + 2) hs) (word_row place 4 x ++ printed (place + 1) (y ∷ hs)) ≡ row_of place (cond b (Wide (y * 65536 + x)) (Short x)) ++ printed (place + halves_of (cond b (Wide (y * 65536 + x)) (Short x))) (drop (halves_of (cond b (Wide (y * 65536 + x)) (Short x))) (x ∷ (y ∷ hs)))) [
       | true ↦ refl
       | false ↦ refl
     ]
 
-word-inside : (x : ℕ) (hs : List ℕ) → (0 < halves_of (word_from x hs)) × (halves_of (word_from x hs) ≤ length (x ∷ hs))
-word-inside x [] = (omega arith, omega arith)
-word-inside x (y ∷ hs) =
+word_inside : (x : ℕ) (hs : List ℕ) → (0 < halves_of (word_from x hs)) × (halves_of (word_from x hs) ≤ length (x ∷ hs))
+word_inside x [] = (omega arith, omega arith)
+word_inside x (y ∷ hs) =
     elim (eqb (x % 4) 3) as (λ b. (0 < halves_of (cond b (Wide (y * 65536 + x)) (Short x))) × (halves_of (cond b (Wide (y * 65536 + x)) (Short x)) ≤ length (x ∷ (y ∷ hs)))) [
       | true ↦ (omega arith, omega arith)
       | false ↦ (omega arith, omega arith)
@@ -63,7 +63,7 @@ module _ (hs : List ℕ) (place : ℕ) (l : place < length hs) where
   pub word_ends : (w : Word) → w ≡ word_at hs place → (0 < halves_of w) × (place + halves_of w ≤ length hs)
   word_ends w e =
       let x = get_or hs place 0 in
-      let i = word-inside x (drop (place + 1) hs) in
+      let i = word_inside x (drop (place + 1) hs) in
       let n = ap halves_of e in
       (omega arith, omega (arith, length-drop (place + 1) hs))
 
@@ -72,11 +72,11 @@ module _ (hs : List ℕ) (place : ℕ) (l : place < length hs) where
   printed_step w e =
       let v = word_at hs place in
       let d = drop_more hs place 0 l in
-      ap (printed place) d ∙ printed-from place (get_or hs place 0) (drop (place + 1) hs) ∙ ap (λ r. row_of place v ++ printed (place + halves_of v) r) (ap (drop (halves_of v)) (sym d) ∙ drop-drop (halves_of v) place hs) ∙ ap (λ u. row_of place u ++ printed (place + halves_of u) (drop (place + halves_of u) hs)) (sym e)
+      ap (printed place) d ∙ printed_from place (get_or hs place 0) (drop (place + 1) hs) ∙ ap (λ r. row_of place v ++ printed (place + halves_of v) r) (ap (drop (halves_of v)) (sym d) ∙ drop-drop (halves_of v) place hs) ∙ ap (λ u. row_of place u ++ printed (place + halves_of u) (drop (place + halves_of u) hs)) (sym e)
 
-word-short : (x : ℕ) (hs : List ℕ) → (x % 4 ≡ 3 → ⊥) → Short x ≡ word_from x hs
-word-short x [] ne = refl
-word-short x (y ∷ hs) ne = sym (cond-false (eqb (x % 4) 3) (Wide (y * 65536 + x)) (Short x) (ne_eqb (x % 4) 3 ne))
+word_short : (x : ℕ) (hs : List ℕ) → (x % 4 ≡ 3 → ⊥) → Short x ≡ word_from x hs
+word_short x [] ne = refl
+word_short x (y ∷ hs) ne = sym (cond-false (eqb (x % 4) 3) (Wide (y * 65536 + x)) (Short x) (ne_eqb (x % 4) 3 ne))
 
 module _ (all : List ℕ) (used place low : ℕ) (inside : place < used) (stored : used ≤ length all) (first : low ≡ get_or all place 0) where
   kept : low ≡ get_or (take used all) place 0
@@ -86,7 +86,7 @@ module _ (all : List ℕ) (used place low : ℕ) (inside : place < used) (stored
   pub one_half : (low % 4 ≡ 3 → ⊥) ⊎ (used ≤ place + 1) → Short low ≡ word_at (take used all) place
   one_half why =
       ap Short kept ∙ ⊎_elim
-      (λ ne. word-short (get_or (take used all) place 0) (drop (place + 1) (take used all)) (λ e. ne (ap (λ x. x % 4) kept ∙ e)))
+      (λ ne. word_short (get_or (take used all) place 0) (drop (place + 1) (take used all)) (λ e. ne (ap (λ x. x % 4) kept ∙ e)))
       (λ l. ap (word_from (get_or (take used all) place 0)) (sym (drop_all (place + 1) (take used all) (omega (arith, length-take-le used all stored)))))
       why
 
@@ -100,14 +100,14 @@ module _ (all : List ℕ) (used place low : ℕ) (inside : place < used) (stored
 
 -- a line has at most nine bytes for each halfword of its word
 row_short : (place : ℕ) (w : Word) → place < 500 → length (row_of place w) ≤ 5 + 4 * halves_of w
-row_short place (Short x) l = omega (arith, length_row place 4 x, length-digits-le 3 (2 * place) (omega arith) (omega arith))
-row_short place (Wide x) l = omega (arith, length_row place 8 x, length-digits-le 3 (2 * place) (omega arith) (omega arith))
+row_short place (Short x) l = omega (arith, length_row place 4 x, length-digits_le 3 (2 * place) (omega arith) (omega arith))
+row_short place (Wide x) l = omega (arith, length_row place 8 x, length-digits_le 3 (2 * place) (omega arith) (omega arith))
 
 -- so have all
-pub printed-short : (place : ℕ) (hs : List ℕ) → place + length hs ≤ 256 → length (printed place hs) ≤ 9 * length hs
-printed-short place [] l = omega arith
-printed-short place (x ∷ []) l = omega (arith, row_short place (Short x) (omega arith))
-printed-short place (x ∷ (y ∷ hs)) l =
+pub printed_short : (place : ℕ) (hs : List ℕ) → place + length hs ≤ 256 → length (printed place hs) ≤ 9 * length hs
+printed_short place [] l = omega arith
+printed_short place (x ∷ []) l = omega (arith, row_short place (Short x) (omega arith))
+printed_short place (x ∷ (y ∷ hs)) l =
     cond_both (eqb (x % 4) 3) (word_row place 8 (y * 65536 + x) ++ printed (place + 2) hs) (word_row place 4 x ++ printed (place + 1) (y ∷ hs)) (λ t. length t ≤ 9 * length (x ∷ (y ∷ hs)))
-    (λ _. omega (arith, length-append (word_row place 8 (y * 65536 + x)) (printed (place + 2) hs), row_short place (Wide (y * 65536 + x)) (omega arith), printed-short (place + 2) hs (omega arith)))
-    (λ _. omega (arith, length-append (word_row place 4 x) (printed (place + 1) (y ∷ hs)), row_short place (Short x) (omega arith), printed-short (place + 1) (y ∷ hs) (omega arith)))
+    (λ _. omega (arith, length-append (word_row place 8 (y * 65536 + x)) (printed (place + 2) hs), row_short place (Wide (y * 65536 + x)) (omega arith), printed_short (place + 2) hs (omega arith)))
+    (λ _. omega (arith, length-append (word_row place 4 x) (printed (place + 1) (y ∷ hs)), row_short place (Short x) (omega arith), printed_short (place + 1) (y ∷ hs) (omega arith)))

@@ -1,7 +1,7 @@
 -- Texts written into a buffer one after another.
 use Rattle.std.proofs.Common.{◌≡◌, ℕ, ◌+◌, ◌≤◌, List, [], ◌++◌, length, sym, ap, ◌∙◌, arith, length-append}
 use Rattle.text.specs.Written.{overwritten}
-use Rattle.text.proofs.Overwritten.{overwritten-none, overwritten_twice}
+use Rattle.text.proofs.Overwritten.{overwritten_none, overwritten_twice}
 
 -- a text was written from a place on, up to an end
 pub record Wrote (before : List ℕ) (at : ℕ) (t : List ℕ) (now : List ℕ) (end : ℕ) : Type 0 where
@@ -49,5 +49,5 @@ module _ {xs ys : List ℕ} {at e : ℕ} (t : List ℕ) where
   pub remains_none : (rest : List ℕ) → Remains xs at t ys e rest → rest ≡ [] → Wrote xs at t ys e
   remains_none rest p none = record {
     past = omega (arith, p.past, ap length none);
-    after = sym (overwritten-none ys e) ∙ ap (overwritten ys e) (sym none) ∙ p.after;
+    after = sym (overwritten_none ys e) ∙ ap (overwritten ys e) (sym none) ∙ p.after;
   }

@@ -16,14 +16,14 @@ use Rattle.operations.specs.declared.row.Use.{Use}
 use Rattle.operations.specs.declared.row.Use.TheVariants.{Absent, Full, Short}
 use Rattle.operations.specs.declared.row.Form.{Form}
 use Rattle.operations.specs.Manual.{Entry, operations, form_at, no_entry, count}
-use Rattle.operations.proofs.Rows.{operations-length}
+use Rattle.operations.proofs.Rows.{operations_length}
 use Rattle.instructions.specs.declared.fields.Fields.{Fields}
 use Rattle.instructions.specs.Faults.{reg_ok, lawful}
 use Rattle.instructions.specs.Faults as rules
 use Rattle.instructions.specs.Words.{raw_reg, raw, word_of}
 use Rattle.instructions.proofs.Checks.{every, every_at, rule_at}
-use Rattle.instructions.proofs.Forms.{Agrees, form_agrees, raw-fits}
-use Rattle.instructions.proofs.Sizes.{codes, raw-bits}
+use Rattle.instructions.proofs.Forms.{Agrees, form_agrees, raw_fits}
+use Rattle.instructions.proofs.Sizes.{codes, raw_bits}
 
 by_digits : {a b : ℕ} → a / 2 ≡ b / 2 → a % 2 ≡ b % 2 → a ≡ b
 by_digits {a} {b} hi lo = sym (div-add-mod' a 2) ∙ ap₂ (λ (x y : ℕ). x * 2 + y) hi lo ∙ div-add-mod' b 2
@@ -66,19 +66,19 @@ of g (Fixed w c) = false
 of g (Slice f l w) = same f g
 
 -- c at the field f
-abbrev put-at : Field → ℕ → Field → ℕ
-put-at f c g = cond (same g f) c 0
+abbrev put_at : Field → ℕ → Field → ℕ
+put_at f c g = cond (same g f) c 0
 
 abbrev only : Field → ℕ → Values
 only f c = record {
-  d = put-at f c D;
-  a = put-at f c A;
-  b = put-at f c B;
-  n = put-at f c N;
-  m = put-at f c M;
-  opcode = put-at f c Opcode;
-  funct3 = put-at f c Funct3;
-  funct = put-at f c Funct;
+  d = put_at f c D;
+  a = put_at f c A;
+  b = put_at f c B;
+  n = put_at f c N;
+  m = put_at f c M;
+  opcode = put_at f c Opcode;
+  funct3 = put_at f c Funct3;
+  funct = put_at f c Funct;
 }
 
 only_at : (f : Field) (c : ℕ) → value_at f (only f c) ≡ c
@@ -101,7 +101,7 @@ unfolding operations
 all_fixed = refl
 
 pub in_table : {k : ℕ} → k < count → k < length operations
-in_table {k} h = subst (λ (n : ℕ). k < n) (sym operations-length) h
+in_table {k} h = subst (λ (n : ℕ). k < n) (sym operations_length) h
 
 pub record Fixes (r : Form) : Type 0 where
   pub mask_is : r.mask ≡ mask (layout r.kind)
@@ -116,7 +116,7 @@ form_fixes k h =
 -- an instruction's word has its operation's fixed bits
 pub has_bits : (r : Form) (f : Fields) → Fixes r → bit_and (word_of r f) r.mask ≡ r.bits
 has_bits r f x =
-    ap (bit_and (word_of r f)) x.mask_is ∙ under fixed (layout r.kind) (raw r f) ∙ raw-bits r f ∙ sym x.bits_is
+    ap (bit_and (word_of r f)) x.mask_is ∙ under fixed (layout r.kind) (raw r f) ∙ raw_bits r f ∙ sym x.bits_is
 
 -- ---- two operations that fixed bits do not tell apart: one never has what the other fixes
 
@@ -163,7 +163,7 @@ settled a b f c w x g o e h t =
     let n = is (bit_and b.bits (ones (of f) s)) (taken (of f) s (only f c)) t2.1 in
     one (of f) (raw a x) (only f c) f (λ l k. self f) s
     (sym (under (of f) s (raw a x)) ∙ ap (λ y. bit_and y (ones (of f) s)) e ∙ ap (bit_and w) (sym m) ∙ sym (and_assoc w b.mask (ones (of f) s)) ∙ ap (λ y. bit_and y (ones (of f) s)) h ∙ n)
-    (raw-fits a x g o f) (subst (λ y. y < 2 ^ span s f) (sym (only_at f c)) (below c (2 ^ span s f) t1.0))
+    (raw_fits a x g o f) (subst (λ y. y < 2 ^ span s f) (sym (only_at f c)) (below c (2 ^ span s f) t1.0))
     ∙ only_at f c
 
 clash_of : (x c : ℕ) → not (eqb x c) ≡ true → x ≡ c → ⊥

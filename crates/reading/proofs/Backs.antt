@@ -43,8 +43,8 @@ back_low q u H n h e = ap (λ b. cond b (pos (q * u)) (negsuc ((H + H - q) * u -
     t : ltb q H ≡ true
     t = grind (arith, nat_tests)
 
-back-high : (q u H n : ℕ) → 0 < q → q ≤ H → q * u ≡ suc n → cond (ltb (H + H - q) H) (pos ((H + H - q) * u)) (negsuc ((H + H - (H + H - q)) * u - 1)) ≡ negsuc n
-back-high q u H n p h e =
+back_high : (q u H n : ℕ) → 0 < q → q ≤ H → q * u ≡ suc n → cond (ltb (H + H - q) H) (pos ((H + H - q) * u)) (negsuc ((H + H - (H + H - q)) * u - 1)) ≡ negsuc n
+back_high q u H n p h e =
     ap (λ b. cond b (pos ((H + H - q) * u)) (negsuc ((H + H - (H + H - q)) * u - 1))) t
     ∙ ap (λ x. negsuc (x * u - 1)) d ∙ ap (λ x. negsuc (x - 1)) e ∙ ap negsuc o
   where
@@ -70,10 +70,10 @@ module _ (k u : ℕ) (w : Allowed) (up : 0 < u) (h : 2 ^ (k - 1) + 2 ^ (k - 1) �
       let e : suc n % u ≡ 0 = grind (arith, nat_tests) in
       let l : suc n / u ≤ 2 ^ (k - 1) = grind (arith, nat_tests) in
       let q = quot (suc n) u e in
-      subst (λ x. cond (ltb (x - suc n / u) (2 ^ (k - 1))) (pos ((x - suc n / u) * u)) (negsuc ((x - (x - suc n / u)) * u - 1)) ≡ negsuc n) h (back-high (suc n / u) u (2 ^ (k - 1)) n (some n u (suc n / u) q) l q)
+      subst (λ x. cond (ltb (x - suc n / u) (2 ^ (k - 1))) (pos ((x - suc n / u) * u)) (negsuc ((x - (x - suc n / u)) * u - 1)) ≡ negsuc n) h (back_high (suc n / u) u (2 ^ (k - 1)) n (some n u (suc n / u) q) l q)
 
-  pub signed-forth : (x : ℕ) → x < 2 ^ k → raw_number (Signed k u w) (number_of (Signed k u w) x) ≡ x
-  signed-forth x l = go (ltb x (2 ^ (k - 1))) refl
+  pub signed_forth : (x : ℕ) → x < 2 ^ k → raw_number (Signed k u w) (number_of (Signed k u w) x) ≡ x
+  signed_forth x l = go (ltb x (2 ^ (k - 1))) refl
     where
       go : (b : Bool) → ltb x (2 ^ (k - 1)) ≡ b → raw_number (Signed k u w) (cond b (pos (x * u)) (negsuc ((2 ^ k - x) * u - 1))) ≡ x
       go true e = mul-div_cancel x up
@@ -90,7 +90,7 @@ number_back (Unsigned k u a) (negsuc n) w h i t = no _ t
 
 number_forth : (c : Number) (x : ℕ) → Workable c → Halved c → x < 2 ^ number_width c → raw_number c (number_of c x) ≡ x
 number_forth NoNumber x w h l = omega arith
-number_forth (Signed k u a) x w h l = signed-forth k u a w.some h x l
+number_forth (Signed k u a) x w h l = signed_forth k u a w.some h x l
 number_forth (Unsigned k u a) x w h l = mul-div_cancel x w.some
 
 -- ---- registers and the mask bit
@@ -111,17 +111,17 @@ one_back : (m : ℤ) → mask_ok Free m ≡ true → pos (1 - (1 - nat_abs m)) �
 one_back (pos m) t = ap pos (let e : 1 - (1 - m) ≡ m = grind (arith, nat_tests) in e)
 one_back (negsuc m) t = no _ t
 
-mask-back : (u : Masking) (m : ℤ) → idle_mask u m ≡ true → mask_ok u m ≡ true → mask_of u (raw_mask u m) ≡ m
-mask-back NoMask m i t = zero_int m i
-mask-back Free m i t = one_back m t
-mask-back Always m i t = one_back m t
-mask-back Never m i t = one_back m t
+mask_back : (u : Masking) (m : ℤ) → idle_mask u m ≡ true → mask_ok u m ≡ true → mask_of u (raw_mask u m) ≡ m
+mask_back NoMask m i t = zero_int m i
+mask_back Free m i t = one_back m t
+mask_back Always m i t = one_back m t
+mask_back Never m i t = one_back m t
 
-mask-forth : (u : Masking) (x : ℕ) → x < 2 ^ mask_width u → raw_mask u (mask_of u x) ≡ x
-mask-forth NoMask x h = omega arith
-mask-forth Free x h = omega arith
-mask-forth Always x h = omega arith
-mask-forth Never x h = omega arith
+mask_forth : (u : Masking) (x : ℕ) → x < 2 ^ mask_width u → raw_mask u (mask_of u x) ≡ x
+mask_forth NoMask x h = omega arith
+mask_forth Free x h = omega arith
+mask_forth Always x h = omega arith
+mask_forth Never x h = omega arith
 
 -- ---- all of them
 
@@ -134,21 +134,21 @@ fields_back r f a t =
       a = reg_back r.a f.a (un 1) (ok 1) i;
       b = reg_back r.b f.b (un 2) (ok 2) i;
       n = number_back r.n f.n a.works a.halves (un 3) (ok 3) i;
-      m = mask-back r.m f.m (un 4) (ok 4) i;
+      m = mask_back r.m f.m (un 4) (ok 4) i;
     }
 
 spanned : (x a b : ℕ) → a ≡ b → x < 2 ^ a → x < 2 ^ b
 spanned x a b e h = subst (λ n. x < 2 ^ n) e h
 
-pub fields-forth : (r : Form) (v : Values) → Agrees r → Fit (layout r.kind) v → r.opcode ≡ v.opcode → r.funct3 ≡ v.funct3 → r.funct ≡ v.funct → raw r (fields_of r v) ≡ v
-fields-forth r v a h eo e3 ef =
+pub fields_forth : (r : Form) (v : Values) → Agrees r → Fit (layout r.kind) v → r.opcode ≡ v.opcode → r.funct3 ≡ v.funct3 → r.funct ≡ v.funct → raw r (fields_of r v) ≡ v
+fields_forth r v a h eo e3 ef =
     let s = layout r.kind in
     λ i. record {
-      d = reg_forth r.d v.d (spanned _ (span s D) _ a.d-span (h D)) i;
-      a = reg_forth r.a v.a (spanned _ (span s A) _ a.a-span (h A)) i;
-      b = reg_forth r.b v.b (spanned _ (span s B) _ a.b-span (h B)) i;
-      n = number_forth r.n v.n a.works a.halves (spanned _ (span s N) _ a.n-span (h N)) i;
-      m = mask-forth r.m v.m (spanned _ (span s M) _ a.m-span (h M)) i;
+      d = reg_forth r.d v.d (spanned _ (span s D) _ a.d_span (h D)) i;
+      a = reg_forth r.a v.a (spanned _ (span s A) _ a.a_span (h A)) i;
+      b = reg_forth r.b v.b (spanned _ (span s B) _ a.b_span (h B)) i;
+      n = number_forth r.n v.n a.works a.halves (spanned _ (span s N) _ a.n_span (h N)) i;
+      m = mask_forth r.m v.m (spanned _ (span s M) _ a.m_span (h M)) i;
       opcode = eo i;
       funct3 = e3 i;
       funct = ef i;

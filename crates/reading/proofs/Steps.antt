@@ -4,10 +4,10 @@ use lib.Bits.{bit_and}
 use Rattle.bits.specs.declared.part.Field.TheVariants.{D, A, B, N, M}
 use Rattle.bits.specs.declared.part.Values.{Values}
 use Rattle.bits.specs.Layout.{span, word, Fit}
-use Rattle.bits.proofs.Layouts.{picks-only}
+use Rattle.bits.proofs.Layouts.{picks_only}
 use Rattle.formats.specs.declared.kind.Kind.{Kind}
 use Rattle.formats.specs.Layouts.{layout}
-use Rattle.formats.proofs.Sound.{layout-sound}
+use Rattle.formats.proofs.Sound.{layout_sound}
 use Rattle.operations.specs.declared.row.Use.{Use}
 use Rattle.operations.specs.declared.row.Use.TheVariants.{Absent, Full, Short}
 use Rattle.operations.specs.declared.row.Number.{Number}
@@ -21,16 +21,16 @@ use Rattle.instructions.specs.Faults.{fault, lawful}
 use Rattle.instructions.specs.Words.{raw, word_of}
 use Rattle.instructions.proofs.Checks.{good}
 use Rattle.instructions.proofs.Constants.{number_width}
-use Rattle.instructions.proofs.Forms.{reg_width, mask_width, Agrees, raw-fits}
+use Rattle.instructions.proofs.Forms.{reg_width, mask_width, Agrees, raw_fits}
 use Rattle.reading.specs.Fields.{fields_of, Narrow, Narrows}
 use Rattle.reading.specs.Reading.{Coded}
-use Rattle.reading.proofs.Backs.{fields_back, fields-forth}
+use Rattle.reading.proofs.Backs.{fields_back, fields_forth}
 use Rattle.reading.proofs.Apart.{Fixes, has_bits}
 
 -- a word has one set of fields that fit
 pub values_one : (k : Kind) (u v : Values) (w : ℕ) → Fit (layout k) u → Fit (layout k) v → word (layout k) u ≡ w → word (layout k) v ≡ w → u ≡ v
 values_one k u v w hu hv eu ev =
-    sym (picks-only (layout k) u w (layout-sound k) hu eu) ∙ picks-only (layout k) v w (layout-sound k) hv ev
+    sym (picks_only (layout k) u w (layout_sound k) hu eu) ∙ picks_only (layout k) v w (layout_sound k) hv ev
 
 -- ---- widths
 
@@ -57,11 +57,11 @@ pub narrows : (r : Form) (v : Values) → Agrees r → Fit (layout r.kind) v →
 narrows r v a h =
     let s = layout r.kind in
     record {
-      d = spanned v.d (span s D) (reg_width r.d) 5 a.d-span (reg_32 r.d) (h D);
-      a = spanned v.a (span s A) (reg_width r.a) 5 a.a-span (reg_32 r.a) (h A);
-      b = spanned v.b (span s B) (reg_width r.b) 5 a.b-span (reg_32 r.b) (h B);
-      n = narrow_of r.n v.n (subst (λ k. v.n < 2 ^ k) a.n-span (h N));
-      m = spanned v.m (span s M) (mask_width r.m) 1 a.m-span (mask_2 r.m) (h M);
+      d = spanned v.d (span s D) (reg_width r.d) 5 a.d_span (reg_32 r.d) (h D);
+      a = spanned v.a (span s A) (reg_width r.a) 5 a.a_span (reg_32 r.a) (h A);
+      b = spanned v.b (span s B) (reg_width r.b) 5 a.b_span (reg_32 r.b) (h B);
+      n = narrow_of r.n v.n (subst (λ k. v.n < 2 ^ k) a.n_span (h N));
+      m = spanned v.m (span s M) (mask_width r.m) 1 a.m_span (mask_2 r.m) (h M);
     }
 
 -- ---- one operation
@@ -75,11 +75,11 @@ raw_coded r f = record { opcode = refl; funct3 = refl; funct = refl }
 
 -- nor where no fields with its codes have it
 pub not_values : (r : Form) (w : ℕ) → Agrees r → ((v : Values) → Fit (layout r.kind) v → Coded r v → word (layout r.kind) v ≡ w → ⊥) → (f : Fields) → lawful r f ≡ true → word_of r f ≡ w → ⊥
-not_values r w a n f t e = n (raw r f) (raw-fits r f a t) (raw_coded r f) e
+not_values r w a n f t e = n (raw r f) (raw_fits r f a t) (raw_coded r f) e
 
 -- the fields that are read have it
 pub read_word : (r : Form) (w : ℕ) (v : Values) → Agrees r → Fit (layout r.kind) v → Coded r v → word (layout r.kind) v ≡ w → word_of r (fields_of r v) ≡ w
-read_word r w v a h c e = ap (word (layout r.kind)) (fields-forth r v a h c.opcode c.funct3 c.funct) ∙ e
+read_word r w v a h c e = ap (word (layout r.kind)) (fields_forth r v a h c.opcode c.funct3 c.funct) ∙ e
 
 clash : (P : Type 0) (o : Option BuildFault) (b : BuildFault) → o ≡ Some b → o ≡ None → P
 clash P o b s n = absurd (let z : ◌≡◌ {A = ℕ} 0 1 = cc in omega arith)
@@ -87,6 +87,6 @@ clash P o b s n = absurd (let z : ◌≡◌ {A = ℕ} 0 1 = cc in omega arith)
 -- and are the only ones, so where they have a fault it is no word of the operation
 pub not_lawful : (r : Form) (w : ℕ) (v : Values) (b : BuildFault) → Agrees r → Fit (layout r.kind) v → word (layout r.kind) v ≡ w → fault r (fields_of r v) ≡ Some b → (f : Fields) → lawful r f ≡ true → word_of r f ≡ w → ⊥
 not_lawful r w v b a h e s f t q =
-    let p = values_one r.kind v (raw r f) w h (raw-fits r f a t) e q in
+    let p = values_one r.kind v (raw r f) w h (raw_fits r f a t) e q in
     let g : fields_of r v ≡ f = ap (fields_of r) p ∙ fields_back r f a t in
     clash ⊥ (fault r f) b (ap (fault r) (sym g) ∙ s) (good r f t)

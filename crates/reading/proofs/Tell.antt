@@ -4,9 +4,9 @@ use mathlib.Core.Bool.{Bool-set}
 use mathlib.Core.HLevel.{is_prop→PathP}
 use denote.Struct.Record.{values_one}
 use Rattle.std.proofs.lemmas.Bool.Decides.{nat_tests}
-use Rattle.bits.proofs.Layouts.{picks-only}
+use Rattle.bits.proofs.Layouts.{picks_only}
 use Rattle.formats.specs.Layouts.{layout}
-use Rattle.formats.proofs.Sound.{layout-sound}
+use Rattle.formats.proofs.Sound.{layout_sound}
 use Rattle.operations.specs.declared.row.Form.{Form}
 use Rattle.operations.specs.declared.operation.Operation.{Operation}
 use Rattle.operations.specs.contracts.operation.Operation as O
@@ -15,8 +15,8 @@ use Rattle.instructions.specs.declared.fields.Fields.{Fields}
 use Rattle.instructions.specs.declared.instruction.Instruction.{Instruction}
 use Rattle.instructions.specs.Faults.{lawful}
 use Rattle.instructions.specs.Words.{raw, word_of, the_word, halves, halfwords_in}
-use Rattle.instructions.proofs.Forms.{Agrees, form_agrees, raw-fits}
-use Rattle.instructions.proofs.Sizes.{low-bits_tell}
+use Rattle.instructions.proofs.Forms.{Agrees, form_agrees, raw_fits}
+use Rattle.instructions.proofs.Sizes.{low_bits_tell}
 use Rattle.reading.specs.Fields.{fields_of}
 use Rattle.reading.specs.Reading.{WordsTell, listing, HalfwordsTell}
 use Rattle.reading.proofs.Backs.{fields_back}
@@ -26,8 +26,8 @@ use Rattle.reading.proofs.Apart.{unconfused}
 pub fields_one : (r : Form) (f g : Fields) → Agrees r → lawful r f ≡ true → lawful r g ≡ true → word_of r f ≡ word_of r g → f ≡ g
 fields_one r f g a hf hg e =
     let s = layout r.kind in
-    let p = picks-only s (raw r f) (word_of r f) (layout-sound r.kind) (raw-fits r f a hf) refl in
-    let q = picks-only s (raw r g) (word_of r f) (layout-sound r.kind) (raw-fits r g a hg) (sym e) in
+    let p = picks_only s (raw r f) (word_of r f) (layout_sound r.kind) (raw_fits r f a hf) refl in
+    let q = picks_only s (raw r g) (word_of r f) (layout_sound r.kind) (raw_fits r g a hg) (sym e) in
     sym (fields_back r f a hf) ∙ ap (fields_of r) (sym p ∙ q) ∙ fields_back r g a hg
 
 pub same_op : (a b : Operation) → a.place ≡ b.place → a ≡ b
@@ -49,7 +49,7 @@ words_tell a b e =
 
 -- an instruction's halfwords by its word alone
 by_word : (i : Instruction) → halfwords_in i ≡ halves (cond (eqb (the_word i % 4) 3) 2 1) (the_word i)
-by_word i = ap (λ n. halves n (the_word i)) (low-bits_tell i.op.place i.fields i.op.real)
+by_word i = ap (λ n. halves n (the_word i)) (low_bits_tell i.op.place i.fields i.op.real)
 
 -- the first halfwords tell the words
 split : (w v : ℕ) (xs ys : List ℕ) (b c : Bool) → eqb (w % 4) 3 ≡ b → eqb (v % 4) 3 ≡ c → halves (cond b 2 1) w ++ xs ≡ halves (cond c 2 1) v ++ ys → (w ≡ v) × (xs ≡ ys)

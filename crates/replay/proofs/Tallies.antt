@@ -25,8 +25,8 @@ pub no_more : (bytes : List ℕ) (at : ℕ) → to_newline (drop at bytes) ≡ N
 no_more bytes at e =
     ⊎_elim (λ l. ap line_count (last_line bytes at e l)) (λ l. ap line_count (no_line bytes at l)) (cases_lt at (length bytes))
 
-pub none-judged : (bytes : List ℕ) (at : ℕ) → to_newline (drop at bytes) ≡ None → equal_count (lines (drop at bytes)) ≡ 0
-none-judged bytes at e =
+pub none_judged : (bytes : List ℕ) (at : ℕ) → to_newline (drop at bytes) ≡ None → equal_count (lines (drop at bytes)) ≡ 0
+none_judged bytes at e =
     ⊎_elim (λ l. ap equal_count (last_line bytes at e l)) (λ l. ap equal_count (no_line bytes at l)) (cases_lt at (length bytes))
 
 -- a test counts as 1 or 0

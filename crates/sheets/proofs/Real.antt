@@ -6,7 +6,7 @@ use Rattle.text.specs.Fields.{fields, field_of, text_of}
 use Rattle.text.specs.Lines.{Line, ended, unended}
 use Rattle.operations.specs.Manual.{Entry, operations, count}
 use Rattle.operations.specs.Names.{named, further}
-use Rattle.operations.proofs.Rows.{operations-length}
+use Rattle.operations.proofs.Rows.{operations_length}
 use Rattle.instructions.specs.declared.fields.Fields.{Fields}
 use Rattle.program.specs.declared.faults.EmitFault.{EmitFault}
 use Rattle.program.specs.Calls.{built_emitted}
@@ -23,22 +23,22 @@ abbrev pub EachReal : Listing → Type 0
 EachReal [] = Unit {0}
 EachReal (x ∷ xs) = (x.0 < count) × EachReal xs
 
-further-lt : (o : Option ℕ) (m k : ℕ) → ((j : ℕ) → o ≡ Some j → j < m) → further 1 o ≡ Some k → k < suc m
-further-lt None m k h e = absurd (let z : ◌≡◌ {A = ℕ} 0 1 = cc in omega arith)
-further-lt (Some i) m k h e = let q : i + 1 ≡ k = cc in let l = h i refl in omega arith
+further_lt : (o : Option ℕ) (m k : ℕ) → ((j : ℕ) → o ≡ Some j → j < m) → further 1 o ≡ Some k → k < suc m
+further_lt None m k h e = absurd (let z : ◌≡◌ {A = ℕ} 0 1 = cc in omega arith)
+further_lt (Some i) m k h e = let q : i + 1 ≡ k = cc in let l = h i refl in omega arith
 
 headed_lt : (b : Bool) (o : Option ℕ) (m k : ℕ) → ((j : ℕ) → o ≡ Some j → j < m) → cond b (Some 0) (further 1 o) ≡ Some k → k < suc m
 headed_lt true o m k h e = let z : 0 ≡ k = cc in omega arith
-headed_lt false o m k h e = further-lt o m k h e
+headed_lt false o m k h e = further_lt o m k h e
 
-named-lt : (es : List Entry) (s : List ℕ) (k : ℕ) → named es s ≡ Some k → k < length es
-named-lt [] s k e = absurd (let z : ◌≡◌ {A = ℕ} 0 1 = cc in omega arith)
-named-lt (x ∷ es) s k e = headed_lt (bytes_eq x.name s) (named es s) (length es) k (named-lt es s) e
+named_lt : (es : List Entry) (s : List ℕ) (k : ℕ) → named es s ≡ Some k → k < length es
+named_lt [] s k e = absurd (let z : ◌≡◌ {A = ℕ} 0 1 = cc in omega arith)
+named_lt (x ∷ es) s k e = headed_lt (bytes_eq x.name s) (named es s) (length es) k (named_lt es s) e
 
 -- what holds of what is there holds of the answer
-there-ok : {A B : Type 0} (P : B → Type 0) (f : LineFault) (o : Option A) (k : A → Result B LineFault) (x : B) → there f o k ≡ Ok x → ((a : A) → o ≡ Some a → k a ≡ Ok x → P x) → P x
-there-ok P f None k x e h = absurd (let z : ◌≡◌ {A = ℕ} 0 1 = cc in omega arith)
-there-ok P f (Some a) k x e h = h a refl e
+there_ok : {A B : Type 0} (P : B → Type 0) (f : LineFault) (o : Option A) (k : A → Result B LineFault) (x : B) → there f o k ≡ Ok x → ((a : A) → o ≡ Some a → k a ≡ Ok x → P x) → P x
+there_ok P f None k x e h = absurd (let z : ◌≡◌ {A = ℕ} 0 1 = cc in omega arith)
+there_ok P f (Some a) k x e h = h a refl e
 
 found_some : {A B : Type 0} (P : B → Type 0) (o : Option A) (k : A → Option B) (x : B) → found o k ≡ Some x → ((a : A) → k a ≡ Some x → P x) → P x
 found_some P None k x e h = absurd (let z : ◌≡◌ {A = ℕ} 0 1 = cc in omega arith)
@@ -47,13 +47,13 @@ found_some P (Some a) k x e h = h a e
 abbrev Real : ℕ × Fields → Type 0
 Real x = x.0 < count
 
-ok-first : (o : ℕ) (f : Fields) (x : ℕ × Fields) → ◌≡◌ {A = Result (ℕ × Fields) LineFault} (Ok (o, f)) (Ok x) → o ≡ x.0
-ok-first o f x e = let q : ◌≡◌ {A = ℕ × Fields} (o, f) x = cc in ap (λ (y : ℕ × Fields). y.0) q
+ok_first : (o : ℕ) (f : Fields) (x : ℕ × Fields) → ◌≡◌ {A = Result (ℕ × Fields) LineFault} (Ok (o, f)) (Ok x) → o ≡ x.0
+ok_first o f x e = let q : ◌≡◌ {A = ℕ × Fields} (o, f) x = cc in ap (λ (y : ℕ × Fields). y.0) q
 
-operation-lt : (t : List ℕ) (k o : ℕ) → operation_at t k ≡ Some o → o < count
-operation-lt t k o e =
+operation_lt : (t : List ℕ) (k o : ℕ) → operation_at t k ≡ Some o → o < count
+operation_lt t k o e =
     found_some (λ i. i < count) (field_of t k) (λ f. named operations (text_of f)) o e
-    (λ f q. subst (λ (n : ℕ). o < n) operations-length (named-lt operations (text_of f) o q))
+    (λ f q. subst (λ (n : ℕ). o < n) operations_length (named_lt operations (text_of f) o q))
 
 lined_real : (c : Columns) (t : List ℕ) (x : ℕ × Fields) → lined c t ≡ Ok x → Real x
 lined_real c t x e = go (eqb (length (fields t)) 6) e
@@ -69,13 +69,13 @@ lined_real c t x e = go (eqb (length (fields t)) 6) e
         Ok (o, record { d = d; a = a; b = b; n = n; m = m })))))))) (Err (FieldCount (length (fields t)))) ≡ Ok x
         → Real x
     go true e =
-        there-ok Real UnknownOperation (operation_at t c.op) _ x e (λ o h q0.
-        there-ok Real (NoNumber D) (number_at t c.d) _ x q0 (λ d _ q1.
-        there-ok Real (NoNumber A) (number_at t c.a) _ x q1 (λ a _ q2.
-        there-ok Real (NoNumber B) (number_at t c.b) _ x q2 (λ b _ q3.
-        there-ok Real (NoNumber N) (number_at t c.n) _ x q3 (λ n _ q4.
-        there-ok Real (NoNumber M) (number_at t c.m) _ x q4 (λ m _ q5.
-        subst (λ (k : ℕ). k < count) (ok-first o (record { d = d; a = a; b = b; n = n; m = m }) x q5) (operation-lt t c.op o h)))))))
+        there_ok Real UnknownOperation (operation_at t c.op) _ x e (λ o h q0.
+        there_ok Real (NoNumber D) (number_at t c.d) _ x q0 (λ d _ q1.
+        there_ok Real (NoNumber A) (number_at t c.a) _ x q1 (λ a _ q2.
+        there_ok Real (NoNumber B) (number_at t c.b) _ x q2 (λ b _ q3.
+        there_ok Real (NoNumber N) (number_at t c.n) _ x q3 (λ n _ q4.
+        there_ok Real (NoNumber M) (number_at t c.m) _ x q4 (λ m _ q5.
+        subst (λ (k : ℕ). k < count) (ok_first o (record { d = d; a = a; b = b; n = n; m = m }) x q5) (operation_lt t c.op o h)))))))
     go false e = absurd (let z : ◌≡◌ {A = ℕ} 0 1 = cc in omega arith)
 
 pub each_append : (a b : Listing) → EachReal a → EachReal b → EachReal (a ++ b)

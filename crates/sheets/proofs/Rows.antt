@@ -7,7 +7,7 @@ use Rattle.printing.proofs.Printed.{printed_one, printed_two}
 use Rattle.formats.specs.Layouts.{size}
 use Rattle.operations.specs.Manual.{form_at}
 use Rattle.instructions.specs.Words.{halves, word_of}
-use Rattle.instructions.proofs.Sizes.{low-bits_tell}
+use Rattle.instructions.proofs.Sizes.{low_bits_tell}
 use Rattle.sheets.specs.Listing.{Listing, halfs, listed}
 use Rattle.sheets.specs.Sheet.{rows, text_of, answer}
 use Rattle.sheets.proofs.Real.{EachReal, listed_real}
@@ -36,12 +36,12 @@ pub prints : (place : ℕ) (listing : Listing) → EachReal listing → printed 
 prints place [] r = refl
 prints place (x ∷ xs) r =
     let n = size (form_at x.0).kind in
-    first place n (word_of (form_at x.0) x.1) (halfs xs) (low-bits_tell x.0 x.1 r.0)
+    first place n (word_of (form_at x.0) x.1) (halfs xs) (low_bits_tell x.0 x.1 r.0)
     ∙ ap (λ t. word_row place (4 * n) (word_of (form_at x.0) x.1) ++ t) (prints (place + n) xs r.1)
 
 -- the words that stand where a sheet's listing does are its answer
-pub words-answer : (bytes : List ℕ) (listing : Listing) (used : ℕ) (hs : List ℕ) → listed 256 (lines bytes) ≡ Ok listing → take used hs ≡ halfs listing → words_text (take used hs) ≡ answer bytes
-words-answer bytes listing used hs e w =
+pub words_answer : (bytes : List ℕ) (listing : Listing) (used : ℕ) (hs : List ℕ) → listed 256 (lines bytes) ≡ Ok listing → take used hs ≡ halfs listing → words_text (take used hs) ≡ answer bytes
+words_answer bytes listing used hs e w =
     ap words_text w
     ∙ ap (λ t. codes "at,word" ++ newline ++ t) (prints 0 listing (listed_real 256 listing (lines bytes) e))
     ∙ sym (ap text_of e)

@@ -30,28 +30,28 @@ pub halfs_one : (a : Listing) (x : ℕ × Fields) → halfs (a ++ (x ∷ [])) �
 halfs_one a x = halfs-append a (x ∷ []) ∙ ap (λ t. halfs a ++ t) (append-nil (halfwords_of x.0 x.1))
 
 -- what is emitted finds its space
-spaced-fits : (room used n : ℕ) → spaced room used n ≡ Ok tt → used + n ≤ room
-spaced-fits room used n e = go (leb (used + n) room) refl e
+spaced_fits : (room used n : ℕ) → spaced room used n ≡ Ok tt → used + n ≤ room
+spaced_fits room used n e = go (leb (used + n) room) refl e
   where
     go : (b : Bool) → leb (used + n) room ≡ b → ◌≡◌ {A = Result (Unit {0}) EmitFault} (cond b (Ok tt) (Err Full)) (Ok tt) → used + n ≤ room
     go true t e = grind (arith, nat_tests)
     go false t e = clash (used + n ≤ room) tt Full e
 
-built-fits : (room used n : ℕ) (o : Option BuildFault) → after_build o (spaced room used n) ≡ Ok tt → used + n ≤ room
-built-fits room used n None e = spaced-fits room used n e
-built-fits room used n (Some b) e = clash (used + n ≤ room) tt (Build b) e
+built_fits : (room used n : ℕ) (o : Option BuildFault) → after_build o (spaced room used n) ≡ Ok tt → used + n ≤ room
+built_fits room used n None e = spaced_fits room used n e
+built_fits room used n (Some b) e = clash (used + n ≤ room) tt (Build b) e
 
-taken-ok : {A : Type 0} (r : Result (Unit {0}) EmitFault) → taken {A = Unit {0}} r tt ≡ Ok tt → (x : A) → (r ≡ Ok tt) × (taken r x ≡ Ok x)
-taken-ok (Ok u) e x = (refl, refl)
-taken-ok {A} (Err d) e x = clash ((◌≡◌ {A = Result (Unit {0}) EmitFault} (Err d) (Ok tt)) × (◌≡◌ {A = Result A LineFault} (Err (Emit d)) (Ok x))) tt (Emit d) e
+taken_ok : {A : Type 0} (r : Result (Unit {0}) EmitFault) → taken {A = Unit {0}} r tt ≡ Ok tt → (x : A) → (r ≡ Ok tt) × (taken r x ≡ Ok x)
+taken_ok (Ok u) e x = (refl, refl)
+taken_ok {A} (Err d) e x = clash ((◌≡◌ {A = Result (Unit {0}) EmitFault} (Err d) (Ok tt)) × (◌≡◌ {A = Result A LineFault} (Err (Emit d)) (Ok x))) tt (Emit d) e
 
-taken-err : {A : Type 0} (r : Result (Unit {0}) EmitFault) (d : LineFault) → taken {A = Unit {0}} r tt ≡ Err d → (x : A) → taken r x ≡ Err d
-taken-err (Ok u) d e x = clash (taken (Ok u) x ≡ Err d) tt d (sym e)
-taken-err (Err f) d e x = let q : Emit f ≡ d = cc in ap Err q
+taken_err : {A : Type 0} (r : Result (Unit {0}) EmitFault) (d : LineFault) → taken {A = Unit {0}} r tt ≡ Err d → (x : A) → taken r x ≡ Err d
+taken_err (Ok u) d e x = clash (taken (Ok u) x ≡ Err d) tt d (sym e)
+taken_err (Err f) d e x = let q : Emit f ≡ d = cc in ap Err q
 
 -- a refused line gives its fault
 pub refused : (room : ℕ) (before : Listing) (q : Result (ℕ × Fields) LineFault) (d : LineFault) → answered_line room (length (halfs before)) q ≡ Err d → with_line room before q ≡ Err d
-refused room before (Ok x) d e = taken-err (built_emitted room (length (halfs before)) x.0 x.1) d e (before ++ (x ∷ []))
+refused room before (Ok x) d e = taken_err (built_emitted room (length (halfs before)) x.0 x.1) d e (before ++ (x ∷ []))
 refused room before (Err f) d e = let q : f ≡ d = cc in ap Err q
 
 -- a line that is taken, and the listing after it
@@ -64,12 +64,12 @@ pub record Longer (room : ℕ) (before : Listing) (q : Result (ℕ × Fields) Li
 pub longer : (room : ℕ) (before : Listing) (q : Result (ℕ × Fields) LineFault) → answered_line room (length (halfs before)) q ≡ Ok tt → Longer room before q
 longer room before (Ok x) e =
     let b = built_emitted room (length (halfs before)) x.0 x.1 in
-    let t = taken-ok b e (before ++ (x ∷ [])) in
+    let t = taken_ok b e (before ++ (x ∷ [])) in
     record {
       after = before ++ (x ∷ []);
       is = t.1;
       words = halfs_one before x;
-      fits = built-fits room (length (halfs before)) (length (halfwords_of x.0 x.1)) (build_fault (form_at x.0) x.1) t.0;
+      fits = built_fits room (length (halfs before)) (length (halfwords_of x.0 x.1)) (build_fault (form_at x.0) x.1) t.0;
     }
 longer room before (Err f) e = clash (Longer room before (Err f)) tt f e
 
@@ -100,14 +100,14 @@ came_ok (Err f) room used hs h = clash ((listing : Listing) × ((Err f ≡ Ok li
 
 -- ---- the first line
 
-at-start : (bytes : List ℕ) → drop 0 bytes ≡ bytes
-at-start [] = refl
-at-start (x ∷ xs) = refl
+at_start : (bytes : List ℕ) → drop 0 bytes ≡ bytes
+at_start [] = refl
+at_start (x ∷ xs) = refl
 
 pub headed : (room : ℕ) (bytes t : List ℕ) → to_newline (drop 0 bytes) ≡ Some t → listed room (lines bytes) ≡ by_columns room (named_columns t) (lines (drop (length t + 1) bytes))
 headed room bytes t e =
     let n : 0 + length t + 1 ≡ length t + 1 = omega arith in
-    ap (λ xs. listed room (lines xs)) (sym (at-start bytes))
+    ap (λ xs. listed room (lines xs)) (sym (at_start bytes))
     ∙ ap (listed room) (next_line bytes 0 t e)
     ∙ ap (λ k. by_columns room (named_columns t) (lines (drop k bytes))) n
 

@@ -5,10 +5,10 @@ ghost use Rattle.short.specs.Operands.{Ca-values, Ca-fault, Ca-codes};
 ghost use Rattle.std.proofs.Common.{lit<, ap, rules};
 ghost use Rattle.formats.specs.declared.kind.Kind.TheVariants as kinds;
 ghost use Rattle.formats.specs.Layouts.{layout};
-ghost use Rattle.formats.proofs.Codes.{narrow, none-wide, none-there};
+ghost use Rattle.formats.proofs.Codes.{narrow, none_wide, none_there};
 ghost use Rattle.formats.proofs.Sound.{fit_of};
 ghost use Rattle.bits.specs.declared.part.Values.{Values};
-ghost use Rattle.operands.proofs.Sames.{same-short};
+ghost use Rattle.operands.proofs.Sames.{same_short};
 ghost use Rattle.bits.specs.declared.part.Field.TheVariants.{D, A, B, N, M, Opcode, Funct3, Funct};
 ghost use Rattle.short.specs.declared.operands_of.CaOperands.{CaOperands};
 
@@ -41,9 +41,9 @@ impl Format for Ca {
         let at : (f : Values → ℕ) → f (Ca-values o) ≡ f (Ca-values p) = λ f. ap f e in
         λ i. record {
           opcode = at (λ v. v.opcode) i;
-          rs2 = same-short o.rs2 p.rs2 (at (λ v. v.b)) i;
+          rs2 = same_short o.rs2 p.rs2 (at (λ v. v.b)) i;
           funct2 = at (λ v. v.funct3) i;
-          rd = same-short o.rd p.rd (at (λ v. v.d)) i;
+          rd = same_short o.rd p.rd (at (λ v. v.d)) i;
           funct6 = at (λ v. v.funct) i;
         } };
 
@@ -51,7 +51,7 @@ impl Format for Ca {
 
     ghost held = { λ v h t.
         let o : CaOperands = record { opcode = v.opcode; rs2 = record { value = v.b; ok = h B }; funct2 = v.funct3; rd = record { value = v.d; ok = h D }; funct6 = v.funct } in
-        (o, (none-wide (Ca-codes o) (h Opcode, (h Funct3, (h Funct, tt))), λ i. record { d = v.d; a = none-there v.a (h A) i; b = v.b; n = none-there v.n (h N) i; m = none-there v.m (h M) i; opcode = v.opcode; funct3 = v.funct3; funct = v.funct })) };
+        (o, (none_wide (Ca-codes o) (h Opcode, (h Funct3, (h Funct, tt))), λ i. record { d = v.d; a = none_there v.a (h A) i; b = v.b; n = none_there v.n (h N) i; m = none_there v.m (h M) i; opcode = v.opcode; funct3 = v.funct3; funct = v.funct })) };
 
     fn kind_of() -> Kind {
         Kind::Ca

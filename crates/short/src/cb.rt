@@ -3,10 +3,10 @@ ghost use Rattle.std.specs.Prelude.{◌≡◌, ℕ, true};
 ghost use Rattle.formats.specs.declared.kind.Kind.TheVariants.{Cb as Cb-kind};
 ghost use Rattle.short.specs.Operands.{Cb-values, Cb-fault, Cb-codes};
 ghost use Rattle.std.proofs.Common.{lit<, ap, rules};
-ghost use Rattle.operands.proofs.Sames.{imm6_lt, same_imm6, same-short, imm6_of, imm6_of_bits};
+ghost use Rattle.operands.proofs.Sames.{imm6_lt, same_imm6, same_short, imm6_of, imm6_of_bits};
 ghost use Rattle.formats.specs.declared.kind.Kind.TheVariants as kinds;
 ghost use Rattle.formats.specs.Layouts.{layout};
-ghost use Rattle.formats.proofs.Codes.{narrow, none-wide, none-there};
+ghost use Rattle.formats.proofs.Codes.{narrow, none_wide, none_there};
 ghost use Rattle.formats.proofs.Sound.{fit_of};
 ghost use Rattle.bits.specs.declared.part.Values.{Values};
 ghost use Rattle.bits.specs.declared.part.Field.TheVariants.{D, A, B, N, M, Opcode, Funct3, Funct};
@@ -43,7 +43,7 @@ impl Format for Cb {
         λ i. record {
           opcode = at (λ v. v.opcode) i;
           imm = same_imm6 o.imm p.imm (at (λ v. v.n)) i;
-          rd = same-short o.rd p.rd (at (λ v. v.d)) i;
+          rd = same_short o.rd p.rd (at (λ v. v.d)) i;
           funct2 = at (λ v. v.funct) i;
           funct3 = at (λ v. v.funct3) i;
         } };
@@ -52,7 +52,7 @@ impl Format for Cb {
 
     ghost held = { λ v h t.
         let o : CbOperands = record { opcode = v.opcode; imm = imm6_of v.n (h N); rd = record { value = v.d; ok = h D }; funct2 = v.funct; funct3 = v.funct3 } in
-        (o, (none-wide (Cb-codes o) (h Opcode, (h Funct, (h Funct3, tt))), λ i. record { d = v.d; a = none-there v.a (h A) i; b = none-there v.b (h B) i; n = imm6_of_bits v.n (h N) i; m = none-there v.m (h M) i; opcode = v.opcode; funct3 = v.funct3; funct = v.funct })) };
+        (o, (none_wide (Cb-codes o) (h Opcode, (h Funct, (h Funct3, tt))), λ i. record { d = v.d; a = none_there v.a (h A) i; b = none_there v.b (h B) i; n = imm6_of_bits v.n (h N) i; m = none_there v.m (h M) i; opcode = v.opcode; funct3 = v.funct3; funct = v.funct })) };
 
     fn kind_of() -> Kind {
         Kind::Cb

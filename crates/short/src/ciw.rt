@@ -5,10 +5,10 @@ ghost use Rattle.short.specs.Operands.{Ciw-values, Ciw-fault, Ciw-codes};
 ghost use Rattle.std.proofs.Common.{lit<, ap, rules};
 ghost use Rattle.formats.specs.declared.kind.Kind.TheVariants as kinds;
 ghost use Rattle.formats.specs.Layouts.{layout};
-ghost use Rattle.formats.proofs.Codes.{narrow, none-wide, none-there};
+ghost use Rattle.formats.proofs.Codes.{narrow, none_wide, none_there};
 ghost use Rattle.formats.proofs.Sound.{fit_of};
 ghost use Rattle.bits.specs.declared.part.Values.{Values};
-ghost use Rattle.operands.proofs.Sames.{same-short, same_uimm8};
+ghost use Rattle.operands.proofs.Sames.{same_short, same_uimm8};
 ghost use Rattle.bits.specs.declared.part.Field.TheVariants.{D, A, B, N, M, Opcode, Funct3, Funct};
 ghost use Rattle.short.specs.declared.operands_of.CiwOperands.{CiwOperands};
 
@@ -42,7 +42,7 @@ impl Format for Ciw {
         let at : (f : Values → ℕ) → f (Ciw-values o) ≡ f (Ciw-values p) = λ f. ap f e in
         λ i. record {
           opcode = at (λ v. v.opcode) i;
-          rd = same-short o.rd p.rd (at (λ v. v.d)) i;
+          rd = same_short o.rd p.rd (at (λ v. v.d)) i;
           imm = same_uimm8 o.imm p.imm (at (λ v. v.n)) i;
           funct3 = at (λ v. v.funct3) i;
         } };
@@ -51,7 +51,7 @@ impl Format for Ciw {
 
     ghost held = { λ v h t.
         let o : CiwOperands = record { opcode = v.opcode; rd = record { value = v.d; ok = h D }; imm = record { value = v.n; ok = h N }; funct3 = v.funct3 } in
-        (o, (none-wide (Ciw-codes o) (h Opcode, (h Funct3, tt)), λ i. record { d = v.d; a = none-there v.a (h A) i; b = none-there v.b (h B) i; n = v.n; m = none-there v.m (h M) i; opcode = v.opcode; funct3 = v.funct3; funct = none-there v.funct (h Funct) i })) };
+        (o, (none_wide (Ciw-codes o) (h Opcode, (h Funct3, tt)), λ i. record { d = v.d; a = none_there v.a (h A) i; b = none_there v.b (h B) i; n = v.n; m = none_there v.m (h M) i; opcode = v.opcode; funct3 = v.funct3; funct = none_there v.funct (h Funct) i })) };
 
     fn kind_of() -> Kind {
         Kind::Ciw

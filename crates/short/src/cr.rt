@@ -5,7 +5,7 @@ ghost use Rattle.short.specs.Operands.{Cr-values, Cr-fault, Cr-codes};
 ghost use Rattle.std.proofs.Common.{lit<, ap, rules};
 ghost use Rattle.formats.specs.declared.kind.Kind.TheVariants as kinds;
 ghost use Rattle.formats.specs.Layouts.{layout};
-ghost use Rattle.formats.proofs.Codes.{narrow, none-wide, none-there};
+ghost use Rattle.formats.proofs.Codes.{narrow, none_wide, none_there};
 ghost use Rattle.formats.proofs.Sound.{fit_of};
 ghost use Rattle.bits.specs.declared.part.Values.{Values};
 ghost use Rattle.operands.proofs.Sames.{same_num};
@@ -50,7 +50,7 @@ impl Format for Cr {
 
     ghost held = { λ v h t.
         let o : CrOperands = record { opcode = v.opcode; rs2 = record { value = v.b; ok = h B }; rd = record { value = v.d; ok = h D }; funct4 = v.funct } in
-        (o, (none-wide (Cr-codes o) (h Opcode, (h Funct, tt)), λ i. record { d = v.d; a = none-there v.a (h A) i; b = v.b; n = none-there v.n (h N) i; m = none-there v.m (h M) i; opcode = v.opcode; funct3 = none-there v.funct3 (h Funct3) i; funct = v.funct })) };
+        (o, (none_wide (Cr-codes o) (h Opcode, (h Funct, tt)), λ i. record { d = v.d; a = none_there v.a (h A) i; b = v.b; n = none_there v.n (h N) i; m = none_there v.m (h M) i; opcode = v.opcode; funct3 = none_there v.funct3 (h Funct3) i; funct = v.funct })) };
 
     fn kind_of() -> Kind {
         Kind::Cr

@@ -5,7 +5,7 @@ ghost use Rattle.short.specs.Operands.{Cr2-values, Cr2-fault, Cr2-codes};
 ghost use Rattle.std.proofs.Common.{lit<, ap, rules};
 ghost use Rattle.formats.specs.declared.kind.Kind.TheVariants as kinds;
 ghost use Rattle.formats.specs.Layouts.{layout};
-ghost use Rattle.formats.proofs.Codes.{narrow, none-wide, none-there};
+ghost use Rattle.formats.proofs.Codes.{narrow, none_wide, none_there};
 ghost use Rattle.formats.proofs.Sound.{fit_of};
 ghost use Rattle.bits.specs.declared.part.Values.{Values};
 ghost use Rattle.operands.proofs.Sames.{same_num};
@@ -49,7 +49,7 @@ impl Format for Cr2 {
 
     ghost held = { λ v h t.
         let o : Cr2Operands = record { opcode = v.opcode; rs1 = record { value = v.a; ok = h A }; funct4 = v.funct } in
-        (o, (none-wide (Cr2-codes o) (h Opcode, (h Funct, tt)), λ i. record { d = none-there v.d (h D) i; a = v.a; b = none-there v.b (h B) i; n = none-there v.n (h N) i; m = none-there v.m (h M) i; opcode = v.opcode; funct3 = none-there v.funct3 (h Funct3) i; funct = v.funct })) };
+        (o, (none_wide (Cr2-codes o) (h Opcode, (h Funct, tt)), λ i. record { d = none_there v.d (h D) i; a = v.a; b = none_there v.b (h B) i; n = none_there v.n (h N) i; m = none_there v.m (h M) i; opcode = v.opcode; funct3 = none_there v.funct3 (h Funct3) i; funct = v.funct })) };
 
     fn kind_of() -> Kind {
         Kind::Cr2

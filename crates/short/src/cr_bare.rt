@@ -5,7 +5,7 @@ ghost use Rattle.short.specs.Operands.{CrBare-values, CrBare-fault, CrBare-codes
 ghost use Rattle.std.proofs.Common.{lit<, ap, rules};
 ghost use Rattle.formats.specs.declared.kind.Kind.TheVariants as kinds;
 ghost use Rattle.formats.specs.Layouts.{layout};
-ghost use Rattle.formats.proofs.Codes.{narrow, none-wide, none-there};
+ghost use Rattle.formats.proofs.Codes.{narrow, none_wide, none_there};
 ghost use Rattle.formats.proofs.Sound.{fit_of};
 ghost use Rattle.bits.specs.declared.part.Values.{Values};
 ghost use Rattle.bits.specs.declared.part.Field.TheVariants.{D, A, B, N, M, Opcode, Funct3, Funct};
@@ -46,7 +46,7 @@ impl Format for CrBare {
 
     ghost held = { λ v h t.
         let o : CrBareOperands = record { opcode = v.opcode; funct4 = v.funct } in
-        (o, (none-wide (CrBare-codes o) (h Opcode, (h Funct, tt)), λ i. record { d = none-there v.d (h D) i; a = none-there v.a (h A) i; b = none-there v.b (h B) i; n = none-there v.n (h N) i; m = none-there v.m (h M) i; opcode = v.opcode; funct3 = none-there v.funct3 (h Funct3) i; funct = v.funct })) };
+        (o, (none_wide (CrBare-codes o) (h Opcode, (h Funct, tt)), λ i. record { d = none_there v.d (h D) i; a = none_there v.a (h A) i; b = none_there v.b (h B) i; n = none_there v.n (h N) i; m = none_there v.m (h M) i; opcode = v.opcode; funct3 = none_there v.funct3 (h Funct3) i; funct = v.funct })) };
 
     fn kind_of() -> Kind {
         Kind::CrBare

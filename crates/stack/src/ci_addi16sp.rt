@@ -6,7 +6,7 @@ ghost use Rattle.std.proofs.Common.{lit<, ap, rules};
 ghost use Rattle.operands.proofs.Sames.{imm6_lt, same_imm6, imm6_of, imm6_of_bits};
 ghost use Rattle.formats.specs.declared.kind.Kind.TheVariants as kinds;
 ghost use Rattle.formats.specs.Layouts.{layout};
-ghost use Rattle.formats.proofs.Codes.{narrow, none-wide, none-there};
+ghost use Rattle.formats.proofs.Codes.{narrow, none_wide, none_there};
 ghost use Rattle.formats.proofs.Sound.{fit_of};
 ghost use Rattle.bits.specs.declared.part.Values.{Values};
 ghost use Rattle.bits.specs.declared.part.Field.TheVariants.{D, A, B, N, M, Opcode, Funct3, Funct};
@@ -49,7 +49,7 @@ impl Format for CiAddi16sp {
 
     ghost held = { λ v h t.
         let o : CiAddi16spOperands = record { opcode = v.opcode; imm = imm6_of v.n (h N); funct3 = v.funct3 } in
-        (o, (none-wide (CiAddi16sp-codes o) (h Opcode, (h Funct3, tt)), λ i. record { d = none-there v.d (h D) i; a = none-there v.a (h A) i; b = none-there v.b (h B) i; n = imm6_of_bits v.n (h N) i; m = none-there v.m (h M) i; opcode = v.opcode; funct3 = v.funct3; funct = none-there v.funct (h Funct) i })) };
+        (o, (none_wide (CiAddi16sp-codes o) (h Opcode, (h Funct3, tt)), λ i. record { d = none_there v.d (h D) i; a = none_there v.a (h A) i; b = none_there v.b (h B) i; n = imm6_of_bits v.n (h N) i; m = none_there v.m (h M) i; opcode = v.opcode; funct3 = v.funct3; funct = none_there v.funct (h Funct) i })) };
 
     fn kind_of() -> Kind {
         Kind::CiAddi16sp

@@ -5,7 +5,7 @@ ghost use Rattle.stack.specs.Operands.{CiLwsp-values, CiLwsp-fault, CiLwsp-codes
 ghost use Rattle.std.proofs.Common.{lit<, ap, rules};
 ghost use Rattle.formats.specs.declared.kind.Kind.TheVariants as kinds;
 ghost use Rattle.formats.specs.Layouts.{layout};
-ghost use Rattle.formats.proofs.Codes.{narrow, none-wide, none-there};
+ghost use Rattle.formats.proofs.Codes.{narrow, none_wide, none_there};
 ghost use Rattle.formats.proofs.Sound.{fit_of};
 ghost use Rattle.bits.specs.declared.part.Values.{Values};
 ghost use Rattle.operands.proofs.Sames.{same_uimm6, same_num};
@@ -51,7 +51,7 @@ impl Format for CiLwsp {
 
     ghost held = { λ v h t.
         let o : CiLwspOperands = record { opcode = v.opcode; imm = record { value = v.n; ok = h N }; rd = record { value = v.d; ok = h D }; funct3 = v.funct3 } in
-        (o, (none-wide (CiLwsp-codes o) (h Opcode, (h Funct3, tt)), λ i. record { d = v.d; a = none-there v.a (h A) i; b = none-there v.b (h B) i; n = v.n; m = none-there v.m (h M) i; opcode = v.opcode; funct3 = v.funct3; funct = none-there v.funct (h Funct) i })) };
+        (o, (none_wide (CiLwsp-codes o) (h Opcode, (h Funct3, tt)), λ i. record { d = v.d; a = none_there v.a (h A) i; b = none_there v.b (h B) i; n = v.n; m = none_there v.m (h M) i; opcode = v.opcode; funct3 = v.funct3; funct = none_there v.funct (h Funct) i })) };
 
     fn kind_of() -> Kind {
         Kind::CiLwsp

@@ -5,7 +5,7 @@ ghost use Rattle.stack.specs.Operands.{CssDouble-values, CssDouble-fault, CssDou
 ghost use Rattle.std.proofs.Common.{lit<, ap, rules};
 ghost use Rattle.formats.specs.declared.kind.Kind.TheVariants as kinds;
 ghost use Rattle.formats.specs.Layouts.{layout};
-ghost use Rattle.formats.proofs.Codes.{narrow, none-wide, none-there};
+ghost use Rattle.formats.proofs.Codes.{narrow, none_wide, none_there};
 ghost use Rattle.formats.proofs.Sound.{fit_of};
 ghost use Rattle.bits.specs.declared.part.Values.{Values};
 ghost use Rattle.operands.proofs.Sames.{same_num, same_uimm6};
@@ -51,7 +51,7 @@ impl Format for CssDouble {
 
     ghost held = { λ v h t.
         let o : CssDoubleOperands = record { opcode = v.opcode; src = record { value = v.b; ok = h B }; imm = record { value = v.n; ok = h N }; funct3 = v.funct3 } in
-        (o, (none-wide (CssDouble-codes o) (h Opcode, (h Funct3, tt)), λ i. record { d = none-there v.d (h D) i; a = none-there v.a (h A) i; b = v.b; n = v.n; m = none-there v.m (h M) i; opcode = v.opcode; funct3 = v.funct3; funct = none-there v.funct (h Funct) i })) };
+        (o, (none_wide (CssDouble-codes o) (h Opcode, (h Funct3, tt)), λ i. record { d = none_there v.d (h D) i; a = none_there v.a (h A) i; b = v.b; n = v.n; m = none_there v.m (h M) i; opcode = v.opcode; funct3 = v.funct3; funct = none_there v.funct (h Funct) i })) };
 
     fn kind_of() -> Kind {
         Kind::CssDouble

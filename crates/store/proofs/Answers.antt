@@ -9,5 +9,5 @@ pub refused_outside : (xs : List ℕ) (p : ℕ) (e : StoreFault) → Err e ≡ p
 refused_outside xs p e was = grind (arith, nat_tests)
 
 -- a taken put was inside
-pub taken-inside : (xs : List ℕ) (p : ℕ) → Ok tt ≡ put_answer xs p → p < length xs
-taken-inside xs p was = grind (arith, nat_tests)
+pub taken_inside : (xs : List ℕ) (p : ℕ) → Ok tt ≡ put_answer xs p → p < length xs
+taken_inside xs p was = grind (arith, nat_tests)

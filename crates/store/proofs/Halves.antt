@@ -3,7 +3,7 @@ use Rattle.std.proofs.Common.{◌≡◌, ℕ, zero, suc, ◌+◌, ◌-◌, ◌*�
 use Rattle.std.proofs.lemmas.List.{drop-set-add, get_or-take, set-append_right, length-take-le, take-append-drop, take-set-le}
 use Rattle.std.proofs.lemmas.Option.{slice_get-get_or}
 use Rattle.std.specs.List.{slice_get}
-use Rattle.store.proofs.Fronts.{take-set-any}
+use Rattle.store.proofs.Fronts.{take-set_any}
 use Rattle.store.specs.Halves.{halves, held, with_half}
 
 length-halves : (xs : List ℕ) → length (halves xs) ≡ length xs / 2
@@ -18,15 +18,15 @@ length-held start m = simp (length-take, length-halves, length-drop)
 two_suc : (p : ℕ) → 2 * suc p ≡ suc (suc (2 * p))
 two_suc p = omega arith
 
-with_half-suc : (x y : ℕ) (rest : List ℕ) (p h : ℕ) → with_half (x ∷ (y ∷ rest)) (2 * suc p) h ≡ x ∷ (y ∷ with_half rest (2 * p) h)
-with_half-suc x y rest p h = simp (two_suc, add-one)
+with_half_suc : (x y : ℕ) (rest : List ℕ) (p h : ℕ) → with_half (x ∷ (y ∷ rest)) (2 * suc p) h ≡ x ∷ (y ∷ with_half rest (2 * p) h)
+with_half_suc x y rest p h = simp (two_suc, add-one)
 
 halves-with_half : (xs : List ℕ) (p h : ℕ) → 2 * p + 1 < length xs → halves (with_half xs (2 * p) h) ≡ set (halves xs) p h
 halves-with_half [] p h l = absurd (omega arith)
 halves-with_half (x ∷ []) p h l = absurd (omega arith)
 halves-with_half (x ∷ (y ∷ rest)) zero h l = ap (λ n. n ∷ halves rest) (omega arith)
 halves-with_half (x ∷ (y ∷ rest)) (suc p) h l =
-    ap halves (with_half-suc x y rest p h) ∙ ap (λ t. (x + 256 * y) ∷ t) (halves-with_half rest p h (omega arith))
+    ap halves (with_half_suc x y rest p h) ∙ ap (λ t. (x + 256 * y) ∷ t) (halves-with_half rest p h (omega arith))
 
 get_or-halves : (xs : List ℕ) (p : ℕ) → 2 * p + 1 < length xs → get_or (halves xs) p 0 ≡ get_or xs (2 * p) 0 + 256 * get_or xs (2 * p + 1) 0
 get_or-halves [] p l = absurd (omega arith)
@@ -48,7 +48,7 @@ held-with_half start m p h l =
     let inside : 2 * p + 1 < length (drop start m) = omega (arith, length-held start m, length-drop start m) in
     ap (λ t. take 32768 (halves t)) (drop-with_half start m (2 * p) h)
     ∙ ap (take 32768) (halves-with_half (drop start m) p h inside)
-    ∙ take-set-any 32768 (halves (drop start m)) p h
+    ∙ take-set_any 32768 (halves (drop start m)) p h
 
 -- the halfword at the place p of a memory from a byte on
 pub nth_held : (start : ℕ) (m : List ℕ) (p : ℕ) → p < length (held start m) → slice_get (held start m) p ≡ Some (get_or (drop start m) (2 * p) 0 + 256 * get_or (drop start m) (2 * p + 1) 0)

@@ -8,7 +8,7 @@ use Rattle.store.specs.declared.store.StoreFault.{StoreFault}
 use Rattle.store.specs.declared.store.StoreFault.TheVariants.{Outside}
 use Rattle.store.specs.Answers.{put_answer, when}
 use Rattle.store.specs.Part.{part}
-use Rattle.store.proofs.Fronts.{take-set-any}
+use Rattle.store.proofs.Fronts.{take-set_any}
 
 pub length_part : (from most : ℕ) (xs : List ℕ) → length (part from most xs) ≡ min most (length xs - from)
 length_part from most xs = simp (length-take, length-drop)
@@ -23,7 +23,7 @@ nth_part from most xs p l =
 
 -- a halfword put in the list is put in the part
 pub part-set : (from most : ℕ) (xs : List ℕ) (p h : ℕ) → part from most (set xs (from + p) h) ≡ set (part from most xs) p h
-part-set from most xs p h = ap (take most) (drop-set-add from xs p h) ∙ take-set-any most (drop from xs) p h
+part-set from most xs p h = ap (take most) (drop-set-add from xs p h) ∙ take-set_any most (drop from xs) p h
 
 -- what a put in the list, at a place of the part, is for the part
 pub put-part : (from most : ℕ) (xs : List ℕ) (p h : ℕ) (r : Result (Unit {0}) StoreFault) (ys : List ℕ) → p < length (part from most xs) → r ≡ put_answer xs (from + p) → ys ≡ set xs (from + p) h →

@@ -58,8 +58,8 @@ length-with_front x (f ∷ fs) l = refl
 abbrev fields_long : List ℕ → ℕ
 fields_long xs = length (fields xs)
 
-pub count-comma : (xs : List ℕ) (i : ℕ) → i < length xs → get_or xs i 0 ≡ 44 → length (fields (drop i xs)) ≡ suc (length (fields (drop (i + 1) xs)))
-count-comma xs i l e =
+pub count_comma : (xs : List ℕ) (i : ℕ) → i < length xs → get_or xs i 0 ≡ 44 → length (fields (drop i xs)) ≡ suc (length (fields (drop (i + 1) xs)))
+count_comma xs i l e =
     at_drop_more fields_long xs i 0 l ∙ ap length (cond-true (eqb (get_or xs i 0) 44) ([] ∷ fields (drop (i + 1) xs)) (with_front (get_or xs i 0) (fields (drop (i + 1) xs))) (eq-eqb (get_or xs i 0) 44 e))
 
 pub count_other : (xs : List ℕ) (i : ℕ) → i < length xs → (get_or xs i 0 ≡ 44 → ⊥) → length (fields (drop i xs)) ≡ length (fields (drop (i + 1) xs))
@@ -68,9 +68,9 @@ count_other xs i l ne =
 
 -- where a field begins
 
-pub begins-zero : (fs : List (List ℕ)) → begins fs 0 ≡ 0
-begins-zero [] = refl
-begins-zero (f ∷ fs) = refl
+pub begins_zero : (fs : List (List ℕ)) → begins fs 0 ≡ 0
+begins_zero [] = refl
+begins_zero (f ∷ fs) = refl
 
 pub begins_more : (fs : List (List ℕ)) (i : ℕ) (f : List ℕ) (rest : List (List ℕ)) → drop i fs ≡ f ∷ rest → begins fs (i + 1) ≡ begins fs i + length f + 1
 begins_more fs i f rest e = ap (begins fs) (omega arith) ∙ go fs i f rest e
@@ -78,7 +78,7 @@ begins_more fs i f rest e = ap (begins fs) (omega arith) ∙ go fs i f rest e
     go : (fs : List (List ℕ)) (i : ℕ) (f : List ℕ) (rest : List (List ℕ)) → drop i fs ≡ f ∷ rest → begins fs (suc i) ≡ begins fs i + length f + 1
     go [] zero f rest e = absurd (omega (arith, ap length e))
     go [] (suc i) f rest e = absurd (omega (arith, ap length e))
-    go (g ∷ fs) zero f rest e = let q : g ≡ f = cc in omega (arith, ap length q, begins-zero fs)
+    go (g ∷ fs) zero f rest e = let q : g ≡ f = cc in omega (arith, ap length q, begins_zero fs)
     go (g ∷ fs) (suc i) f rest e = omega (arith, go fs i f rest e)
 
 pub drop_next : (fs : List (List ℕ)) (i : ℕ) (f : List ℕ) (rest : List (List ℕ)) → drop i fs ≡ f ∷ rest → drop (i + 1) fs ≡ rest
@@ -115,9 +115,9 @@ pub part_number : (t : List ℕ) (p : ℕ) → 0 < length t → begins_number (g
 part_number [] p l e = absurd (omega arith)
 part_number (x ∷ xs) p l e = sym (cond-true (begins_number x) (number_part (x ∷ xs) p) (word_part (x ∷ xs) p) e)
 
-pub part-word : (t : List ℕ) (p : ℕ) → 0 < length t → begins_number (get_or t 0 0) ≡ false → word_part t p ≡ part t p
-part-word [] p l e = absurd (omega arith)
-part-word (x ∷ xs) p l e = sym (cond-false (begins_number x) (number_part (x ∷ xs) p) (word_part (x ∷ xs) p) e)
+pub part_word : (t : List ℕ) (p : ℕ) → 0 < length t → begins_number (get_or t 0 0) ≡ false → word_part t p ≡ part t p
+part_word [] p l e = absurd (omega arith)
+part_word (x ∷ xs) p l e = sym (cond-false (begins_number x) (number_part (x ∷ xs) p) (word_part (x ∷ xs) p) e)
 
 -- the number of a text among those left, counted on from k
 abbrev pub counted : ℕ → Option ℕ → Option ℕ

@@ -41,19 +41,19 @@ digits_push n d p l =
     digits_more (n * 10 + d) (omega arith) ∙ ap (λ k. digits k ++ ((48 + (n * 10 + d) % 10) ∷ [])) q ∙ ap (λ k. digits n ++ (k ∷ [])) r
 
 -- no more digits than places
-pub length-digits-le : (k n : ℕ) → 1 ≤ k → n < 10 ^ k → length (digits n) ≤ k
-length-digits-le k n p l =
+pub length-digits_le : (k n : ℕ) → 1 ≤ k → n < 10 ^ k → length (digits n) ≤ k
+length-digits_le k n p l =
     ⊎_elim (λ e. omega (arith, ap (λ m. length (digits m)) e))
     (λ e. omega (arith, ap length (digits_positive n (omega arith)), length-map (digits_of 10 n) ascii, length-digits_of-le 10 k n (omega arith) l))
     (cases_eq n 0)
 
-some-digits_of : (n : ℕ) → 0 < n → 0 < length (digits_of 10 n)
-some-digits_of n p = omega (arith, length-digits_of_step 10 n (omega arith) p)
+some_digits_of : (n : ℕ) → 0 < n → 0 < length (digits_of 10 n)
+some_digits_of n p = omega (arith, length-digits_of_step 10 n (omega arith) p)
 
 pub some_digit : (n : ℕ) → 0 < length (digits n)
 some_digit n =
     ⊎_elim (λ e. omega (arith, ap (λ m. length (digits m)) e))
-    (λ e. omega (arith, ap length (digits_positive n (omega arith)), length-map (digits_of 10 n) ascii, some-digits_of n (omega arith)))
+    (λ e. omega (arith, ap length (digits_positive n (omega arith)), length-map (digits_of 10 n) ascii, some_digits_of n (omega arith)))
     (cases_eq n 0)
 
 -- from a text to the number
@@ -141,33 +141,33 @@ first_ascii (d ∷ ds) p e = omega arith
 
 no_minus : (n : ℕ) → get_or (digits n) 0 0 ≡ 45 → ⊥
 no_minus zero e = omega arith
-no_minus (suc n) e = first_ascii (digits_of 10 (suc n)) (some-digits_of (suc n) (omega arith)) (ap (λ r. get_or r 0 0) (sym (digits_positive (suc n) (omega arith))) ∙ e)
+no_minus (suc n) e = first_ascii (digits_of 10 (suc n)) (some_digits_of (suc n) (omega arith)) (ap (λ r. get_or r 0 0) (sym (digits_positive (suc n) (omega arith))) ∙ e)
 
 no_integer : {P : Type 0} (z : ℤ) → None ≡ Some z → P
 no_integer z e = let q : ◌≡◌ {A = ℕ} 0 1 = cc in absurd (omega arith)
 
-plain-some : (o : Option ℕ) (z : ℤ) → plain o ≡ Some z → (n : ℕ) × (o ≡ Some n) × (z ≡ pos n) × (n < 2 ^ 63)
-plain-some None z e = no_integer z e
-plain-some (Some n) z e =
+plain_some : (o : Option ℕ) (z : ℤ) → plain o ≡ Some z → (n : ℕ) × (o ≡ Some n) × (z ≡ pos n) × (n < 2 ^ 63)
+plain_some None z e = no_integer z e
+plain_some (Some n) z e =
     ⊎_elim
     (λ l. let q : Some (pos n) ≡ Some z = sym (cond-true (ltb n (2 ^ 63)) (Some (pos n)) None (lt-ltb n (2 ^ 63) l)) ∙ e in (n, refl, cc, l))
     (λ g. no_integer z (sym (cond-false (ltb n (2 ^ 63)) (Some (pos n)) None (le-ltb n (2 ^ 63) g)) ∙ e))
     (cases_lt n (2 ^ 63))
 
-negated-some : (o : Option ℕ) (z : ℤ) → negated o ≡ Some z → (n : ℕ) × (o ≡ Some (suc n)) × (z ≡ negsuc n) × (n < 2 ^ 63)
-negated-some None z e = no_integer z e
-negated-some (Some zero) z e = no_integer z e
-negated-some (Some (suc n)) z e =
+negated_some : (o : Option ℕ) (z : ℤ) → negated o ≡ Some z → (n : ℕ) × (o ≡ Some (suc n)) × (z ≡ negsuc n) × (n < 2 ^ 63)
+negated_some None z e = no_integer z e
+negated_some (Some zero) z e = no_integer z e
+negated_some (Some (suc n)) z e =
     ⊎_elim
     (λ l. let q : Some (negsuc n) ≡ Some z = sym (cond-true (ltb n (2 ^ 63)) (Some (negsuc n)) None (lt-ltb n (2 ^ 63) l)) ∙ e in (n, refl, cc, l))
     (λ g. no_integer z (sym (cond-false (ltb n (2 ^ 63)) (Some (negsuc n)) None (le-ltb n (2 ^ 63) g)) ∙ e))
     (cases_lt n (2 ^ 63))
 
-within-pos : (n : ℕ) → n < 2 ^ 63 → Within (pos n)
-within-pos n l = record { low = omega (arith, ints); high = omega (arith, ints) }
+within_pos : (n : ℕ) → n < 2 ^ 63 → Within (pos n)
+within_pos n l = record { low = omega (arith, ints); high = omega (arith, ints) }
 
-within-negsuc : (n : ℕ) → n < 2 ^ 63 → Within (negsuc n)
-within-negsuc n l = record { low = omega (arith, ints); high = omega (arith, ints) }
+within_negsuc : (n : ℕ) → n < 2 ^ 63 → Within (negsuc n)
+within_negsuc n l = record { low = omega (arith, ints); high = omega (arith, ints) }
 
 minus_front : (t : List ℕ) → get_or t 0 0 ≡ 45 → 45 ∷ drop 1 t ≡ t
 minus_front [] e = absurd (omega arith)
@@ -177,13 +177,13 @@ number_writes : (t : List ℕ) (z : ℤ) → number_of t ≡ Some z → Within z
 number_writes t z e =
     ⊎_elim
     (λ s.
-    let m = negated-some (natural_of (drop 1 t)) z (sym (cond-true (eqb (get_or t 0 0) 45) (negated (natural_of (drop 1 t))) (plain (natural_of t)) s) ∙ e) in (
-      subst Within (sym m.2) (within-negsuc m.0 m.3),
+    let m = negated_some (natural_of (drop 1 t)) z (sym (cond-true (eqb (get_or t 0 0) 45) (negated (natural_of (drop 1 t))) (plain (natural_of t)) s) ∙ e) in (
+      subst Within (sym m.2) (within_negsuc m.0 m.3),
       ap numeral m.2 ∙ ap (λ r. 45 ∷ r) (natural_writes (drop 1 t) (suc m.0) m.1) ∙ minus_front t (eqb-true (get_or t 0 0) 45 s),
     ))
     (λ s.
-    let p = plain-some (natural_of t) z (sym (cond-false (eqb (get_or t 0 0) 45) (negated (natural_of (drop 1 t))) (plain (natural_of t)) s) ∙ e) in
-    (subst Within (sym p.2) (within-pos p.0 p.3), ap numeral p.2 ∙ natural_writes t p.0 p.1))
+    let p = plain_some (natural_of t) z (sym (cond-false (eqb (get_or t 0 0) 45) (negated (natural_of (drop 1 t))) (plain (natural_of t)) s) ∙ e) in
+    (subst Within (sym p.2) (within_pos p.0 p.3), ap numeral p.2 ∙ natural_writes t p.0 p.1))
     (cases_Bool (eqb (get_or t 0 0) 45))
 
 writes_number : (z : ℤ) → Within z → number_of (numeral z) ≡ Some z

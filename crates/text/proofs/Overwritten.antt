@@ -9,8 +9,8 @@ use Rattle.text.specs.Written.{overwritten, hex, hex_digit}
 use Rattle.text.proofs.Numerals.{digits_more}
 
 -- nothing written
-pub overwritten-none : (xs : List ℕ) (at : ℕ) → overwritten xs at [] ≡ xs
-overwritten-none xs at = ap (λ n. take at xs ++ drop n xs) (omega arith) ∙ take-append-drop at xs
+pub overwritten_none : (xs : List ℕ) (at : ℕ) → overwritten xs at [] ≡ xs
+overwritten_none xs at = ap (λ n. take at xs ++ drop n xs) (omega arith) ∙ take-append-drop at xs
 
 module _ (xs : List ℕ) (at : ℕ) (a : List ℕ) (fits : at + length a ≤ length xs) where
   front : length (take at xs ++ a) ≡ at + length a
@@ -42,8 +42,8 @@ overwritten_twice xs at a b fits =
     ap (λ r. r ++ (b ++ drop (at + length a + length b) (overwritten xs at a))) (take-overwritten xs at a (omega arith)) ∙ ap (λ r. (take at xs ++ a) ++ (b ++ r)) (drop-overwritten xs at a (omega arith) (at + length a + length b) (omega arith)) ∙ append_assoc (take at xs) a (b ++ drop (at + length a + length b) xs) ∙ ap (λ r. take at xs ++ r) (sym (append_assoc a b (drop (at + length a + length b) xs))) ∙ ap (λ m. take at xs ++ ((a ++ b) ++ drop m xs)) n
 
 -- the same for two writes, of which the second begins where the first ended
-pub overwritten-then : (xs ys zs : List ℕ) (at end : ℕ) (a b : List ℕ) → ys ≡ overwritten xs at a → end ≡ at + length a → zs ≡ overwritten ys end b → at + length a + length b ≤ length xs → zs ≡ overwritten xs at (a ++ b)
-overwritten-then xs ys zs at end a b ey ee ez fits =
+pub overwritten_then : (xs ys zs : List ℕ) (at end : ℕ) (a b : List ℕ) → ys ≡ overwritten xs at a → end ≡ at + length a → zs ≡ overwritten ys end b → at + length a + length b ≤ length xs → zs ≡ overwritten xs at (a ++ b)
+overwritten_then xs ys zs at end a b ey ee ez fits =
     ez ∙ ap (λ r. overwritten r end b) ey ∙ ap (λ i. overwritten (overwritten xs at a) i b) ee ∙ overwritten_twice xs at a b fits
 
 -- one byte
@@ -60,8 +60,8 @@ overwritten_front xs at y a fits =
     ap (λ p. set p at y) t ∙ set_at (take at xs) (get_or xs at 0) r y at (length-take-le at xs (omega arith)) ∙ ap (λ n. take at xs ++ (y ∷ (a ++ drop n xs))) (omega arith)
 
 -- a part of the buffer that was copied into
-pub overwritten-part : (xs : List ℕ) (at k : ℕ) (ys a : List ℕ) → ys ≡ a → k ≡ length a → put_mid at k xs ys ≡ overwritten xs at a
-overwritten-part xs at k ys a e l =
+pub overwritten_part : (xs : List ℕ) (at k : ℕ) (ys a : List ℕ) → ys ≡ a → k ≡ length a → put_mid at k xs ys ≡ overwritten xs at a
+overwritten_part xs at k ys a e l =
     put_mid-paste at k xs ys a (length a) e (sym l) refl ∙ ap (λ r. (take at xs ++ r) ++ drop (at + length a) xs) (take_all (length a) a (omega arith)) ∙ append_assoc (take at xs) a (drop (at + length a) xs)
 
 -- as many digits as the width
@@ -70,8 +70,8 @@ length-hex zero n = refl
 length-hex (suc k) n = ap suc (length-hex k n)
 
 -- no digit yet, and one digit more in front
-pub hex-none : (k n : ℕ) → k ≡ 0 → (n ≡ n / 16 ^ k) × (hex k n ≡ [])
-hex-none k n e = (sym (ap (λ j. n / 16 ^ j) e ∙ div-one n), ap (λ j. hex j n) e)
+pub hex_none : (k n : ℕ) → k ≡ 0 → (n ≡ n / 16 ^ k) × (hex k n ≡ [])
+hex_none k n e = (sym (ap (λ j. n / 16 ^ j) e ∙ div-one n), ap (λ j. hex j n) e)
 
 pub hex_more : (j k n : ℕ) → j ≡ k + 1 → (n / 16 ^ k / 16 ≡ n / 16 ^ j) × (hex j n ≡ hex_digit (n / 16 ^ k % 16) ∷ hex k n)
 hex_more j k n e =
@@ -96,4 +96,4 @@ pub digits_turn : (xs ys zs : List ℕ) (at last n : ℕ) → 10 ≤ n → at + 
 digits_turn xs ys zs at last n ten fits el ey ez =
     let m = digits_more n ten in
     let s = ap length m ∙ length-append (digits (n / 10)) ((48 + n % 10) ∷ []) in
-    overwritten-then xs ys zs at last (digits (n / 10)) ((48 + n % 10) ∷ []) ey el ez (omega arith) ∙ ap (overwritten xs at) (sym m)
+    overwritten_then xs ys zs at last (digits (n / 10)) ((48 + n % 10) ∷ []) ey el ez (omega arith) ∙ ap (overwritten xs at) (sym m)

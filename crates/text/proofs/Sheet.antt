@@ -10,18 +10,18 @@ ended_step : (x : ℕ) (xs ys : List ℕ) (ls : List Line) (b : Bool) → ls ≡
 ended_step x xs ys ls true e h l = ap (λ r. ended [] ∷ r) e
 ended_step x xs ys ls false e h l = ap (with_byte x) (h (omega arith))
 
-lines-ended : (xs : List ℕ) → far 10 xs < length xs → lines xs ≡ ended (until 10 xs) ∷ lines (drop (suc (far 10 xs)) xs)
-lines-ended [] l = absurd (omega arith)
-lines-ended (x ∷ xs) l = ended_step x xs (until 10 xs) (lines xs) (eqb x 10) refl (lines-ended xs) l
+lines_ended : (xs : List ℕ) → far 10 xs < length xs → lines xs ≡ ended (until 10 xs) ∷ lines (drop (suc (far 10 xs)) xs)
+lines_ended [] l = absurd (omega arith)
+lines_ended (x ∷ xs) l = ended_step x xs (until 10 xs) (lines xs) (eqb x 10) refl (lines_ended xs) l
 
 unended_step : (x : ℕ) (xs ys : List ℕ) (ls : List Line) (b : Bool) → ls ≡ lines xs → (0 < length xs → length xs ≤ length ys → ls ≡ unended xs ∷ []) → suc (length xs) ≤ length (cond b [] (x ∷ ys)) → cond b (ended [] ∷ ls) (with_byte x ls) ≡ unended (x ∷ xs) ∷ []
 unended_step x xs ys ls true e h l = absurd (omega arith)
 unended_step x [] ys ls false e h l = ap (with_byte x) e
 unended_step x (y ∷ xs) ys ls false e h l = ap (with_byte x) (h (omega arith) (omega arith))
 
-lines-unended : (xs : List ℕ) → 0 < length xs → length xs ≤ far 10 xs → lines xs ≡ unended xs ∷ []
-lines-unended [] p l = absurd (omega arith)
-lines-unended (x ∷ xs) p l = unended_step x xs (until 10 xs) (lines xs) (eqb x 10) refl (lines-unended xs) l
+lines_unended : (xs : List ℕ) → 0 < length xs → length xs ≤ far 10 xs → lines xs ≡ unended xs ∷ []
+lines_unended [] p l = absurd (omega arith)
+lines_unended (x ∷ xs) p l = unended_step x xs (until 10 xs) (lines xs) (eqb x 10) refl (lines_unended xs) l
 
 -- what was found before a newline is what stands before the first
 pub found_text : (xs t : List ℕ) → to_newline xs ≡ Some t → (t ≡ until 10 xs) × (length t < length xs)
@@ -52,11 +52,11 @@ next_line bytes at t e =
     let d : drop (suc (far 10 (drop at bytes))) (drop at bytes) ≡ drop (at + length t + 1) bytes
     = drop-drop (suc (far 10 (drop at bytes))) at bytes ∙ ap (λ n. drop n bytes) (omega (arith, ap length q))
     in
-    lines-ended (drop at bytes) f ∙ ap (λ r. ended r ∷ lines (drop (suc (far 10 (drop at bytes))) (drop at bytes))) (sym q) ∙ ap (λ r. ended t ∷ lines r) d
+    lines_ended (drop at bytes) f ∙ ap (λ r. ended r ∷ lines (drop (suc (far 10 (drop at bytes))) (drop at bytes))) (sym q) ∙ ap (λ r. ended t ∷ lines r) d
 
 -- where none is found before the end, what is left is one unended line
 pub last_line : (bytes : List ℕ) (at : ℕ) → to_newline (drop at bytes) ≡ None → at < length bytes → lines (drop at bytes) ≡ unended (drop at bytes) ∷ []
-last_line bytes at e l = lines-unended (drop at bytes) (omega (arith, length-drop at bytes)) (not_found (drop at bytes) e)
+last_line bytes at e l = lines_unended (drop at bytes) (omega (arith, length-drop at bytes)) (not_found (drop at bytes) e)
 
 -- at the end there is no line
 pub no_line : (bytes : List ℕ) (at : ℕ) → length bytes ≤ at → lines (drop at bytes) ≡ []

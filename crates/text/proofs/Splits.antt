@@ -19,9 +19,9 @@ tidy_step : (x : ℕ) (ls : List Line) (b : Bool) → eqb x 10 ≡ b → Tidy ls
 tidy_step x ls true e h = (tt, h)
 tidy_step x ls false e h = tidy_front x ls (eqb-false x 10 e) h
 
-tidy-lines : (s : List ℕ) → Tidy (lines s)
-tidy-lines [] = tt
-tidy-lines (x ∷ s) = tidy_step x (lines s) (eqb x 10) refl (tidy-lines s)
+tidy_lines : (s : List ℕ) → Tidy (lines s)
+tidy_lines [] = tt
+tidy_lines (x ∷ s) = tidy_step x (lines s) (eqb x 10) refl (tidy_lines s)
 
 sheet_front : (x : ℕ) (ls : List Line) → sheet (with_byte x ls) ≡ x ∷ sheet ls
 sheet_front x [] = refl
@@ -55,7 +55,7 @@ lines-sheet (unended t ∷ ls) h =
     ap (λ r. lines (t ++ sheet r)) h.2 ∙ ap lines (append-nil t) ∙ one_unended t h.0 h.1 ∙ ap (λ r. unended t ∷ r) (sym h.2)
 
 pub lines_exact : LinesExact
-lines_exact s = (tidy-lines s, sheet-lines s, λ ls h e. sym (lines-sheet ls h) ∙ ap lines e)
+lines_exact s = (tidy_lines s, sheet-lines s, λ ls h e. sym (lines-sheet ls h) ∙ ap lines e)
 
 -- fields
 
@@ -67,9 +67,9 @@ apart_step : (x : ℕ) (fs : List (List ℕ)) (b : Bool) → eqb x 44 ≡ b → 
 apart_step x fs true e h = (tt, h)
 apart_step x fs false e h = apart_front x fs (eqb-false x 44 e) h
 
-apart-fields : (s : List ℕ) → AllByRecursion (Without 44) (fields s)
-apart-fields [] = (tt, tt)
-apart-fields (x ∷ s) = apart_step x (fields s) (eqb x 44) refl (apart-fields s)
+apart_fields : (s : List ℕ) → AllByRecursion (Without 44) (fields s)
+apart_fields [] = (tt, tt)
+apart_fields (x ∷ s) = apart_step x (fields s) (eqb x 44) refl (apart_fields s)
 
 line_front : (x : ℕ) (fs : List (List ℕ)) → line_of (with_front x fs) ≡ x ∷ line_of fs
 line_front x [] = refl
@@ -105,7 +105,7 @@ fields_line (f ∷ g ∷ fs) l h = one_more f (line_of (g ∷ fs)) h.0 ∙ ap (�
 
 pub fields_exact : FieldsExact
 fields_exact s = (
-  record { any = some_field s; none = apart-fields s },
+  record { any = some_field s; none = apart_fields s },
   line_fields s,
   λ fs h e. sym (fields_line fs h.any h.none) ∙ ap fields e,
 )

@@ -3,10 +3,10 @@ ghost use Rattle.std.specs.Prelude.{◌≡◌, ℕ, true};
 ghost use Rattle.formats.specs.declared.kind.Kind.TheVariants.{V as V-kind};
 ghost use Rattle.vectors.specs.Operands.{V-values, V-fault, V-codes};
 ghost use Rattle.std.proofs.Common.{lit<, ap, rules};
-ghost use Rattle.operands.proofs.Sames.{mask_lt, same_num, same-mask, mask_of, mask_of_bits};
+ghost use Rattle.operands.proofs.Sames.{mask_lt, same_num, same_mask, mask_of, mask_of_bits};
 ghost use Rattle.formats.specs.declared.kind.Kind.TheVariants as kinds;
 ghost use Rattle.formats.specs.Layouts.{layout};
-ghost use Rattle.formats.proofs.Codes.{narrow, none-wide, none-there};
+ghost use Rattle.formats.proofs.Codes.{narrow, none_wide, none_there};
 ghost use Rattle.formats.proofs.Sound.{fit_of};
 ghost use Rattle.bits.specs.declared.part.Values.{Values};
 ghost use Rattle.bits.specs.declared.part.Field.TheVariants.{D, A, B, N, M, Opcode, Funct3, Funct};
@@ -46,7 +46,7 @@ impl Format for V {
           funct3 = at (λ v. v.funct3) i;
           vs1 = same_num o.vs1 p.vs1 (at (λ v. v.a)) i;
           vs2 = same_num o.vs2 p.vs2 (at (λ v. v.b)) i;
-          masking = same-mask o.masking p.masking (at (λ v. v.m)) i;
+          masking = same_mask o.masking p.masking (at (λ v. v.m)) i;
           funct6 = at (λ v. v.funct) i;
         } };
 
@@ -54,7 +54,7 @@ impl Format for V {
 
     ghost held = { λ v h t.
         let o : VOperands = record { opcode = v.opcode; vd = record { value = v.d; ok = h D }; funct3 = v.funct3; vs1 = record { value = v.a; ok = h A }; vs2 = record { value = v.b; ok = h B }; masking = mask_of v.m (h M); funct6 = v.funct } in
-        (o, (none-wide (V-codes o) (h Opcode, (h Funct3, (h Funct, tt))), λ i. record { d = v.d; a = v.a; b = v.b; n = none-there v.n (h N) i; m = mask_of_bits v.m (h M) i; opcode = v.opcode; funct3 = v.funct3; funct = v.funct })) };
+        (o, (none_wide (V-codes o) (h Opcode, (h Funct3, (h Funct, tt))), λ i. record { d = v.d; a = v.a; b = v.b; n = none_there v.n (h N) i; m = mask_of_bits v.m (h M) i; opcode = v.opcode; funct3 = v.funct3; funct = v.funct })) };
 
     fn kind_of() -> Kind {
         Kind::V

@@ -3,10 +3,10 @@ ghost use Rattle.std.specs.Prelude.{◌≡◌, ℕ, true};
 ghost use Rattle.formats.specs.declared.kind.Kind.TheVariants.{VImm as VImm-kind};
 ghost use Rattle.vectors.specs.Operands.{VImm-values, VImm-fault, VImm-codes};
 ghost use Rattle.std.proofs.Common.{lit<, ap, rules};
-ghost use Rattle.operands.proofs.Sames.{imm5_lt, mask_lt, same_num, same_imm5, same-mask, imm5_of, imm5_of_bits, mask_of, mask_of_bits};
+ghost use Rattle.operands.proofs.Sames.{imm5_lt, mask_lt, same_num, same_imm5, same_mask, imm5_of, imm5_of_bits, mask_of, mask_of_bits};
 ghost use Rattle.formats.specs.declared.kind.Kind.TheVariants as kinds;
 ghost use Rattle.formats.specs.Layouts.{layout};
-ghost use Rattle.formats.proofs.Codes.{narrow, none-wide, none-there};
+ghost use Rattle.formats.proofs.Codes.{narrow, none_wide, none_there};
 ghost use Rattle.formats.proofs.Sound.{fit_of};
 ghost use Rattle.bits.specs.declared.part.Values.{Values};
 ghost use Rattle.bits.specs.declared.part.Field.TheVariants.{D, A, B, N, M, Opcode, Funct3, Funct};
@@ -47,7 +47,7 @@ impl Format for VImm {
           funct3 = at (λ v. v.funct3) i;
           imm = same_imm5 o.imm p.imm (at (λ v. v.n)) i;
           vs2 = same_num o.vs2 p.vs2 (at (λ v. v.b)) i;
-          masking = same-mask o.masking p.masking (at (λ v. v.m)) i;
+          masking = same_mask o.masking p.masking (at (λ v. v.m)) i;
           funct6 = at (λ v. v.funct) i;
         } };
 
@@ -55,7 +55,7 @@ impl Format for VImm {
 
     ghost held = { λ v h t.
         let o : VImmOperands = record { opcode = v.opcode; vd = record { value = v.d; ok = h D }; funct3 = v.funct3; imm = imm5_of v.n (h N); vs2 = record { value = v.b; ok = h B }; masking = mask_of v.m (h M); funct6 = v.funct } in
-        (o, (none-wide (VImm-codes o) (h Opcode, (h Funct3, (h Funct, tt))), λ i. record { d = v.d; a = none-there v.a (h A) i; b = v.b; n = imm5_of_bits v.n (h N) i; m = mask_of_bits v.m (h M) i; opcode = v.opcode; funct3 = v.funct3; funct = v.funct })) };
+        (o, (none_wide (VImm-codes o) (h Opcode, (h Funct3, (h Funct, tt))), λ i. record { d = v.d; a = none_there v.a (h A) i; b = v.b; n = imm5_of_bits v.n (h N) i; m = mask_of_bits v.m (h M) i; opcode = v.opcode; funct3 = v.funct3; funct = v.funct })) };
 
     fn kind_of() -> Kind {
         Kind::VImm

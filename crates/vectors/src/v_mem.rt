@@ -3,10 +3,10 @@ ghost use Rattle.std.specs.Prelude.{◌≡◌, ℕ, true};
 ghost use Rattle.formats.specs.declared.kind.Kind.TheVariants.{VMem as VMem-kind};
 ghost use Rattle.vectors.specs.Operands.{VMem-values, VMem-fault, VMem-codes};
 ghost use Rattle.std.proofs.Common.{lit<, ap, rules};
-ghost use Rattle.operands.proofs.Sames.{mask_lt, same_num, same-mask, mask_of, mask_of_bits};
+ghost use Rattle.operands.proofs.Sames.{mask_lt, same_num, same_mask, mask_of, mask_of_bits};
 ghost use Rattle.formats.specs.declared.kind.Kind.TheVariants as kinds;
 ghost use Rattle.formats.specs.Layouts.{layout};
-ghost use Rattle.formats.proofs.Codes.{narrow, none-wide, none-there};
+ghost use Rattle.formats.proofs.Codes.{narrow, none_wide, none_there};
 ghost use Rattle.formats.proofs.Sound.{fit_of};
 ghost use Rattle.bits.specs.declared.part.Values.{Values};
 ghost use Rattle.bits.specs.declared.part.Field.TheVariants.{D, A, B, N, M, Opcode, Funct3, Funct};
@@ -45,14 +45,14 @@ impl Format for VMem {
           vd = same_num o.vd p.vd (at (λ v. v.d)) i;
           width = at (λ v. v.funct3) i;
           rs1 = same_num o.rs1 p.rs1 (at (λ v. v.a)) i;
-          masking = same-mask o.masking p.masking (at (λ v. v.m)) i;
+          masking = same_mask o.masking p.masking (at (λ v. v.m)) i;
         } };
 
     ghost allowed = { Prim.search rules };
 
     ghost held = { λ v h t.
         let o : VMemOperands = record { opcode = v.opcode; vd = record { value = v.d; ok = h D }; width = v.funct3; rs1 = record { value = v.a; ok = h A }; masking = mask_of v.m (h M) } in
-        (o, (none-wide (VMem-codes o) (h Opcode, (h Funct3, tt)), λ i. record { d = v.d; a = v.a; b = none-there v.b (h B) i; n = none-there v.n (h N) i; m = mask_of_bits v.m (h M) i; opcode = v.opcode; funct3 = v.funct3; funct = none-there v.funct (h Funct) i })) };
+        (o, (none_wide (VMem-codes o) (h Opcode, (h Funct3, tt)), λ i. record { d = v.d; a = v.a; b = none_there v.b (h B) i; n = none_there v.n (h N) i; m = mask_of_bits v.m (h M) i; opcode = v.opcode; funct3 = v.funct3; funct = none_there v.funct (h Funct) i })) };
 
     fn kind_of() -> Kind {
         Kind::VMem

@@ -5,7 +5,7 @@ ghost use Rattle.wide.specs.Operands.{R-values, R-fault, R-codes};
 ghost use Rattle.std.proofs.Common.{lit<, ap, rules};
 ghost use Rattle.formats.specs.declared.kind.Kind.TheVariants as kinds;
 ghost use Rattle.formats.specs.Layouts.{layout};
-ghost use Rattle.formats.proofs.Codes.{narrow, none-wide, none-there};
+ghost use Rattle.formats.proofs.Codes.{narrow, none_wide, none_there};
 ghost use Rattle.formats.proofs.Sound.{fit_of};
 ghost use Rattle.bits.specs.declared.part.Values.{Values};
 ghost use Rattle.operands.proofs.Sames.{same_num};
@@ -52,7 +52,7 @@ impl Format for R {
 
     ghost held = { λ v h t.
         let o : ROperands = record { opcode = v.opcode; rd = record { value = v.d; ok = h D }; funct3 = v.funct3; rs1 = record { value = v.a; ok = h A }; rs2 = record { value = v.b; ok = h B }; funct7 = v.funct } in
-        (o, (none-wide (R-codes o) (h Opcode, (h Funct3, (h Funct, tt))), λ i. record { d = v.d; a = v.a; b = v.b; n = none-there v.n (h N) i; m = none-there v.m (h M) i; opcode = v.opcode; funct3 = v.funct3; funct = v.funct })) };
+        (o, (none_wide (R-codes o) (h Opcode, (h Funct3, (h Funct, tt))), λ i. record { d = v.d; a = v.a; b = v.b; n = none_there v.n (h N) i; m = none_there v.m (h M) i; opcode = v.opcode; funct3 = v.funct3; funct = v.funct })) };
 
     fn kind_of() -> Kind {
         Kind::R

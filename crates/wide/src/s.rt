@@ -6,7 +6,7 @@ ghost use Rattle.std.proofs.Common.{lit<, ap, rules};
 ghost use Rattle.operands.proofs.Sames.{imm12_lt, same_num, same_imm12, imm12_of, imm12_of_bits};
 ghost use Rattle.formats.specs.declared.kind.Kind.TheVariants as kinds;
 ghost use Rattle.formats.specs.Layouts.{layout};
-ghost use Rattle.formats.proofs.Codes.{narrow, none-wide, none-there};
+ghost use Rattle.formats.proofs.Codes.{narrow, none_wide, none_there};
 ghost use Rattle.formats.proofs.Sound.{fit_of};
 ghost use Rattle.bits.specs.declared.part.Values.{Values};
 ghost use Rattle.bits.specs.declared.part.Field.TheVariants.{D, A, B, N, M, Opcode, Funct3, Funct};
@@ -52,7 +52,7 @@ impl Format for S {
 
     ghost held = { λ v h t.
         let o : SOperands = record { opcode = v.opcode; funct3 = v.funct3; rs1 = record { value = v.a; ok = h A }; rs2 = record { value = v.b; ok = h B }; imm = imm12_of v.n (h N) } in
-        (o, (none-wide (S-codes o) (h Opcode, (h Funct3, tt)), λ i. record { d = none-there v.d (h D) i; a = v.a; b = v.b; n = imm12_of_bits v.n (h N) i; m = none-there v.m (h M) i; opcode = v.opcode; funct3 = v.funct3; funct = none-there v.funct (h Funct) i })) };
+        (o, (none_wide (S-codes o) (h Opcode, (h Funct3, tt)), λ i. record { d = none_there v.d (h D) i; a = v.a; b = v.b; n = imm12_of_bits v.n (h N) i; m = none_there v.m (h M) i; opcode = v.opcode; funct3 = v.funct3; funct = none_there v.funct (h Funct) i })) };
 
     fn kind_of() -> Kind {
         Kind::S

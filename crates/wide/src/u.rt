@@ -6,7 +6,7 @@ ghost use Rattle.std.proofs.Common.{lit<, ap, rules};
 ghost use Rattle.operands.proofs.Sames.{imm20_lt, same_num, same_imm20, imm20_of, imm20_of_bits};
 ghost use Rattle.formats.specs.declared.kind.Kind.TheVariants as kinds;
 ghost use Rattle.formats.specs.Layouts.{layout};
-ghost use Rattle.formats.proofs.Codes.{narrow, none-wide, none-there};
+ghost use Rattle.formats.proofs.Codes.{narrow, none_wide, none_there};
 ghost use Rattle.formats.proofs.Sound.{fit_of};
 ghost use Rattle.bits.specs.declared.part.Values.{Values};
 ghost use Rattle.bits.specs.declared.part.Field.TheVariants.{D, A, B, N, M, Opcode, Funct3, Funct};
@@ -50,7 +50,7 @@ impl Format for U {
 
     ghost held = { λ v h t.
         let o : UOperands = record { opcode = v.opcode; rd = record { value = v.d; ok = h D }; imm = imm20_of v.n (h N) } in
-        (o, (none-wide (U-codes o) (h Opcode, tt), λ i. record { d = v.d; a = none-there v.a (h A) i; b = none-there v.b (h B) i; n = imm20_of_bits v.n (h N) i; m = none-there v.m (h M) i; opcode = v.opcode; funct3 = none-there v.funct3 (h Funct3) i; funct = none-there v.funct (h Funct) i })) };
+        (o, (none_wide (U-codes o) (h Opcode, tt), λ i. record { d = v.d; a = none_there v.a (h A) i; b = none_there v.b (h B) i; n = imm20_of_bits v.n (h N) i; m = none_there v.m (h M) i; opcode = v.opcode; funct3 = none_there v.funct3 (h Funct3) i; funct = none_there v.funct (h Funct) i })) };
 
     fn kind_of() -> Kind {
         Kind::U

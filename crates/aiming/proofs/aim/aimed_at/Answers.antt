@@ -2,7 +2,7 @@ use Rattle.std.proofs.Common.{◌≡◌, ℕ, List, ℤ, Some, Option, ap, ◌�
 use Rattle.std.proofs.lemmas.Int.{to_z-of_z}
 use Rattle.instructions.specs.declared.instruction.Instruction.{Instruction}
 use Rattle.aiming.specs.Standing.{reaching_only, aimed, jump_at, halfwords_found}
-use Rattle.aiming.proofs.Lawfuls.{jump-once}
+use Rattle.aiming.proofs.Lawfuls.{jump_once}
 use Rattle.aiming.proofs.aim.aimed_at.Goals as goal
 
 -- the jump that was found, aimed
@@ -12,7 +12,7 @@ found cells used p i z r s e h =
     h
     ∙ ap (λ z. halfwords_found (aimed (reaching_only (Some (i.op.place, i.fields))) z)) (to_z-of_z w64 z s)
     ∙ ap (λ o. halfwords_found (aimed (reaching_only o) z)) e
-    ∙ ap (λ o. halfwords_found (aimed o z)) (jump-once cells used p)
+    ∙ ap (λ o. halfwords_found (aimed o z)) (jump_once cells used p)
 
 pub returns : goal.returns
 returns g c =

@@ -3,7 +3,7 @@ use Rattle.std.proofs.lemmas.Int.{to_z-of_z}
 use Rattle.instructions.specs.declared.fields.Fields.{Fields}
 use Rattle.instructions.specs.declared.instruction.Instruction.{Instruction}
 use Rattle.aiming.specs.Standing.{at_distance, reaching_only, aimed, worded, halfwords_found}
-use Rattle.aiming.proofs.Lawfuls.{Aimed, aimed-some, word_small, halfwords_by}
+use Rattle.aiming.proofs.Lawfuls.{Aimed, aimed_some, word_small, halfwords_by}
 use Rattle.aiming.proofs.aim.aimed_halfwords.Goals as goal
 
 abbrev at : Instruction → ℤ → Option (ℕ × Fields)
@@ -11,7 +11,7 @@ at i z = aimed (reaching_only (Some (i.op.place, i.fields))) z
 
 -- the word that was answered
 answered : (i : Instruction) (z : ℤ) (w : ℕ) → SFits w64 z → Some w ≡ worded (at i (to_z w64 (of_z w64 z))) → Aimed i.op.place i.fields z w
-answered i z w s e = aimed-some i.op.place i.fields z w i.op.real i.ok (e ∙ ap (λ z. worded (at i z)) (to_z-of_z w64 z s))
+answered i z w s e = aimed_some i.op.place i.fields z w i.op.real i.ok (e ∙ ap (λ z. worded (at i z)) (to_z-of_z w64 z s))
 
 pub halves_of-requires : goal.halves_of-requires
 halves_of-requires c =

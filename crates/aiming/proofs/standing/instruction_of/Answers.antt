@@ -3,19 +3,19 @@ use Rattle.instructions.specs.declared.fields.Fields.{Fields}
 use Rattle.instructions.specs.declared.instruction.Instruction.{Instruction}
 use Rattle.reading.specs.Reading.{Reads}
 use Rattle.aiming.specs.Standing.{spelled, instruction_of}
-use Rattle.aiming.proofs.Known.{known, only-known}
+use Rattle.aiming.proofs.Known.{known, only_known}
 use Rattle.aiming.proofs.standing.instruction_of.Goals as goal
 
-none-some : (P : Type 0) (i : Instruction) → ◌≡◌ {A = Option Instruction} None (Some i) → P
-none-some P i e = absurd (let z : ◌≡◌ {A = ℕ} 0 1 = cc in omega arith)
+none_some : (P : Type 0) (i : Instruction) → ◌≡◌ {A = Option Instruction} None (Some i) → P
+none_some P i e = absurd (let z : ◌≡◌ {A = ℕ} 0 1 = cc in omega arith)
 
 -- what reads as no instruction is none
 none : (w : ℕ) → Reads w None → (o : Option (ℕ × Fields)) → instruction_of w ≡ o → None ≡ o
 none w h None e = refl
 none w h (Some (k, f)) e =
-    let z = only-known w k f e in
+    let z = only_known w k f e in
     let i : Instruction = record { op = record { place = k; real = z.0 }; fields = f; ok = z.1.ok } in
-    none-some (None ≡ Some (k, f)) i ((h i).1 z.1.word)
+    none_some (None ≡ Some (k, f)) i ((h i).1 z.1.word)
 
 told : (w : ℕ) (r : Option Instruction) → Reads w r → spelled r ≡ instruction_of w
 told w None h = none w h (instruction_of w) refl

@@ -3,8 +3,8 @@ use lib.Seq.{drop-length}
 use Rattle.bits.specs.declared.part.Part.{Part}
 use Rattle.bits.specs.declared.part.Part.TheVariants.{Fixed}
 use Rattle.bits.specs.Layout.{word, value, width, total, Handy, Handies}
-use Rattle.bits.proofs.Walks.{handies-at, handy-width, word-drop, room}
-use Rattle.bits.proofs.Layouts.{value-lt}
+use Rattle.bits.proofs.Walks.{handies_at, handy_width, word-drop, room}
+use Rattle.bits.proofs.Layouts.{value_lt}
 use Rattle.bits.proofs.walk.join.Goals as goal
 
 pub loop-i-init : goal.loop-i-init
@@ -15,12 +15,12 @@ before : (s : List Part) (i : ℕ) → Handies s → 0 < i → i ≤ length s �
 before s i h p l =
     let q : i - 1 < length s = omega arith in
     let e : suc (i - 1) ≡ i = omega arith in
-    subst (λ j. Handy (get_or s (i - 1) (Fixed 0 0)) × (total (drop j s) + width (get_or s (i - 1) (Fixed 0 0)) ≤ 32)) e (handies-at s (i - 1) (Fixed 0 0) h q)
+    subst (λ j. Handy (get_or s (i - 1) (Fixed 0 0)) × (total (drop j s) + width (get_or s (i - 1) (Fixed 0 0)) ≤ 32)) e (handies_at s (i - 1) (Fixed 0 0) h q)
 
 pub overflow_sub-width : goal.overflow_sub-width
 overflow_sub-width c =
     let b = before c.args.parts.now c.loop-i.i c.requires (omega arith) c.loop-i.invariant.0 in
-    let w = handy-width (get_or c.args.parts.now (c.loop-i.i - 1) (Fixed 0 0)) b.0 in
+    let w = handy_width (get_or c.args.parts.now (c.loop-i.i - 1) (Fixed 0 0)) b.0 in
     let e = c.width_of-width.ensures in
     omega arith
 
@@ -32,9 +32,9 @@ put-bits-requires c =
     let p = get_or c.args.parts.now (c.loop-i.i - 1) (Fixed 0 0) in
     let b = before c.args.parts.now c.loop-i.i c.requires (omega arith) c.loop-i.invariant.0 in
     let e = c.width_of-width.ensures in
-    let w : c.width_of-width.result < 32 = subst (λ n. n < 32) (sym e) (handy-width p b.0) in
+    let w : c.width_of-width.result < 32 = subst (λ n. n < 32) (sym e) (handy_width p b.0) in
     record {
-      below = subst₂ (λ m n. m < 2 ^ n) (sym c.value_of.ensures) (sym e) (value-lt p c.args.v.now);
+      below = subst₂ (λ m n. m < 2 ^ n) (sym c.value_of.ensures) (sym e) (value_lt p c.args.v.now);
       narrow = subst₂ (λ m n. m < 2 ^ (32 - n)) (sym c.loop-i.invariant.1) (sym e) (room (drop c.loop-i.i c.args.parts.now) c.args.v.now (width p) b.1);
       inside = w;
       within = omega arith;

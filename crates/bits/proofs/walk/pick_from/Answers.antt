@@ -3,14 +3,14 @@ use lib.Bits.{bit_or}
 use Rattle.std.proofs.lemmas.List.{drop_all}
 use Rattle.bits.specs.declared.part.Part.TheVariants.{Fixed}
 use Rattle.bits.specs.Layout.{pick, width, bits_in}
-use Rattle.bits.proofs.Walks.{handies-at, handy-width, pick-drop}
+use Rattle.bits.proofs.Walks.{handies_at, handy_width, pick-drop}
 use Rattle.bits.proofs.walk.pick_from.Goals as goal
 
 pub bits_in-found-requires : goal.bits_in-found-requires
-bits_in-found-requires c = (handies-at c.args.parts.now c.loop-p.p-index (Fixed 0 0) c.requires c.loop-p-test.true).0
+bits_in-found-requires c = (handies_at c.args.parts.now c.loop-p.p-index (Fixed 0 0) c.requires c.loop-p-test.true).0
 
 pub overflow_shr-rest : goal.overflow_shr-rest
-overflow_shr-rest c = subst (λ n. n < 32) (sym c.width_of-rest.ensures) (handy-width (get_or c.args.parts.now c.loop-p.p-index (Fixed 0 0)) (handies-at c.args.parts.now c.loop-p.p-index (Fixed 0 0) c.requires c.loop-p-test.true).0)
+overflow_shr-rest c = subst (λ n. n < 32) (sym c.width_of-rest.ensures) (handy_width (get_or c.args.parts.now c.loop-p.p-index (Fixed 0 0)) (handies_at c.args.parts.now c.loop-p.p-index (Fixed 0 0) c.requires c.loop-p-test.true).0)
 
 pub loop-p-preserved : goal.loop-p-preserved
 loop-p-preserved c =

@@ -1,7 +1,7 @@
 use Rattle.std.proofs.Common.{sym, refl, ap, ◌∙◌, subst}
 use Rattle.bits.specs.Layout.{word, Fit}
 use Rattle.formats.specs.Layouts.{layout}
-use Rattle.formats.proofs.Reading.{none-some}
+use Rattle.formats.proofs.Reading.{none_some}
 use Rattle.formats.proofs.by.values_by.Goals as goal
 
 pub returns-in-Some : goal.returns-in-Some
@@ -12,4 +12,4 @@ returns-in-Some g c =
 
 pub returns-in-None : goal.returns-in-None
 returns-in-None g c =
-    λ v f a e. let o = g.met.F.Format.held v f a in none-some ⊥ o.0 (c.in-None.ensures.back o.0 o.1.0 (ap (word (layout g.F.Format.kind)) o.1.1 ∙ e))
+    λ v f a e. let o = g.met.F.Format.held v f a in none_some ⊥ o.0 (c.in-None.ensures.back o.0 o.1.0 (ap (word (layout g.F.Format.kind)) o.1.1 ∙ e))

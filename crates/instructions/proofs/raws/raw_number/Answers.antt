@@ -3,7 +3,7 @@ use lib.Signed.{lt_z}
 use Rattle.std.proofs.lemmas.Int.{to_z-of_z}
 use Rattle.std.proofs.lemmas.Nat.{one_shl}
 use Rattle.instructions.specs.Faults.{number_ok, Workable}
-use Rattle.instructions.proofs.Constants.{neg-count}
+use Rattle.instructions.proofs.Constants.{neg_count}
 use Rattle.instructions.proofs.raws.raw_number.Goals as goal
 
 pub overflow_sub-result : goal.overflow_sub-result
@@ -14,4 +14,4 @@ overflow_sub-result c =
     let o = subst (λ u. number_ok u c.args.n ≡ true) c.in-Signed.is c.requires.fits in
     let w = subst Workable c.in-Signed.is c.requires.works in
     let k : c.in-Signed.width < 64 = let n = w.narrow in omega arith in
-    subst₂ (λ a b. a / c.in-Signed.unit ≤ b) (sym q) (sym (one_shl c.in-Signed.width 64 k)) (neg-count c.in-Signed.width c.in-Signed.unit c.in-Signed.field-2 c.args.n o t)
+    subst₂ (λ a b. a / c.in-Signed.unit ≤ b) (sym q) (sym (one_shl c.in-Signed.width 64 k)) (neg_count c.in-Signed.width c.in-Signed.unit c.in-Signed.field-2 c.args.n o t)

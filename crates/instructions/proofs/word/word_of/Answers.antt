@@ -7,7 +7,7 @@ use Rattle.operations.specs.Manual.{form_at}
 use Rattle.instructions.specs.declared.fields.Fields.{Fields}
 use Rattle.instructions.specs.declared.instruction.Instruction.{Instruction}
 use Rattle.instructions.specs.Faults.{lawful}
-use Rattle.instructions.proofs.Forms.{Agrees, form_agrees, number_32, raw-fits}
+use Rattle.instructions.proofs.Forms.{Agrees, form_agrees, number_32, raw_fits}
 use Rattle.instructions.proofs.word.word_of.Goals as goal
 
 -- a form and fields that are the instruction's
@@ -31,4 +31,4 @@ word_for-requires c =
     let r = c.known_form-form.result in
     let e = c.known_form-form.ensures.is ∙ ap (λ (o : Operation). form_at o.place) c.op.ensures in
     let l = lawful_here i r c.fields.result e c.fields.ensures in
-    record { at = subst (Fit (layout r.kind)) (sym c.raw_of-values.ensures) (raw-fits r c.fields.result (agrees_here i r e) l) }
+    record { at = subst (Fit (layout r.kind)) (sym c.raw_of-values.ensures) (raw_fits r c.fields.result (agrees_here i r e) l) }

@@ -3,12 +3,12 @@ use Rattle.formats.specs.Layouts.{size}
 use Rattle.operations.specs.declared.operation.Operation.{Operation}
 use Rattle.operations.specs.Manual.{form_at}
 use Rattle.instructions.specs.Words.{halfwords_of}
-use Rattle.pairs.proofs.Words.{addi_lawful, addi_size, spelled-lawful}
+use Rattle.pairs.proofs.Words.{addi_lawful, addi_size, spelled_lawful}
 use Rattle.pairs.proofs.pair.lower_of.Goals as goal
 
 pub of-requires : goal.of-requires
 of-requires c =
-    spelled-lawful c.addi.ensures c.addi_fields.ensures (addi_lawful c.args.register.number c.args.low.value c.args.register.ok c.args.low.ok)
+    spelled_lawful c.addi.ensures c.addi_fields.ensures (addi_lawful c.args.register.number c.args.low.value c.args.register.ok c.args.low.ok)
 
 pub returns : goal.returns
 returns c =

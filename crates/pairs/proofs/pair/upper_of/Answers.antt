@@ -3,12 +3,12 @@ use Rattle.formats.specs.Layouts.{size}
 use Rattle.operations.specs.declared.operation.Operation.{Operation}
 use Rattle.operations.specs.Manual.{form_at}
 use Rattle.instructions.specs.Words.{halfwords_of}
-use Rattle.pairs.proofs.Words.{lui_lawful, lui_size, spelled-lawful}
+use Rattle.pairs.proofs.Words.{lui_lawful, lui_size, spelled_lawful}
 use Rattle.pairs.proofs.pair.upper_of.Goals as goal
 
 pub of-requires : goal.of-requires
 of-requires c =
-    spelled-lawful c.lui.ensures c.lui_fields.ensures (lui_lawful c.args.register.number c.args.high.value c.args.register.ok c.args.high.ok)
+    spelled_lawful c.lui.ensures c.lui_fields.ensures (lui_lawful c.args.register.number c.args.high.value c.args.register.ok c.args.high.ok)
 
 pub returns : goal.returns
 returns c =

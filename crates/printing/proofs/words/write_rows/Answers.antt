@@ -2,7 +2,7 @@ use Rattle.std.proofs.Common.{◌≡◌, ◌+◌, ◌<◌, ◌≤◌, ◌++◌, 
 use Rattle.std.proofs.lemmas.List.{drop_all, length-take-le}
 use Rattle.printing.specs.Printed.{printed}
 use Rattle.printing.specs.Words.{row_of, halves_of}
-use Rattle.printing.proofs.Printed.{printed-short, printed_step, word_ends}
+use Rattle.printing.proofs.Printed.{printed_short, printed_step, word_ends}
 use Rattle.printing.proofs.Wrote.{wrote, remains_more, remains_none}
 use Rattle.printing.proofs.words.write_rows.Goals as goal
 
@@ -14,7 +14,7 @@ write_row-end-requires g c =
     let place = c.loop-place.place in
     let s = ap length (printed_step hs place (omega arith) w c.word_at-word.ensures) in
     let a = length-append (row_of place w) (printed (place + halves_of w) (drop (place + halves_of w) hs)) in
-    let short = printed-short 0 hs (omega arith) in
+    let short = printed_short 0 hs (omega arith) in
     record { low = omega arith; room = omega (arith, c.loop-place.invariant.1.past) }
 
 pub loop-place-preserved : goal.loop-place-preserved
@@ -24,7 +24,7 @@ loop-place-preserved g c =
     let w = c.word_at-word.result in
     let place = c.loop-place.place in
     let inside : place < length hs = omega arith in
-    let short = printed-short 0 hs (omega arith) in
+    let short = printed_short 0 hs (omega arith) in
     let rest = printed place (drop place hs) in
     let next = printed (place + c.halves-place.result) (drop (place + c.halves-place.result) hs) in
     let same : rest ≡ row_of place w ++ next

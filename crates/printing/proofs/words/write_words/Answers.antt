@@ -1,7 +1,7 @@
 use Rattle.std.proofs.Common.{◌≡◌, ◌+◌, ◌≤◌, ◌++◌, length, take, codes, ◌∙◌, zero-add, arith, length-append}
 use Rattle.std.proofs.lemmas.List.{length-take-le}
 use Rattle.printing.specs.Printed.{newline, printed, words_text}
-use Rattle.printing.proofs.Printed.{printed-short}
+use Rattle.printing.proofs.Printed.{printed_short}
 use Rattle.printing.proofs.Wrote.{wrote, wrote_more}
 use Rattle.printing.proofs.words.write_words.Goals as goal
 
@@ -9,7 +9,7 @@ pub returns : goal.returns
 returns g c =
     let hs = take c.args.used (g.S.Store.halfwords c.args.store.now) in
     let n = length-take-le c.args.used (g.S.Store.halfwords c.args.store.now) c.requires.stored in
-    let short = printed-short 0 hs (omega arith) in
+    let short = printed_short 0 hs (omega arith) in
     let names = codes "at,word" ++ newline in
     let l = length-append names (printed 0 hs) in
     let fits : 0 + length (words_text hs) ≤ length c.args.out.now = omega arith in

@@ -1,5 +1,5 @@
 use Rattle.std.proofs.Common.{cond, sym, ap, ◌∙◌, arith}
-use Rattle.replay.proofs.Tallies.{one_more, one_judged, no_more, none-judged, byte_is, byte_small}
+use Rattle.replay.proofs.Tallies.{one_more, one_judged, no_more, none_judged, byte_is, byte_small}
 use Rattle.replay.proofs.tally.counted.Goals as goal
 
 pub loop-line-preserved : goal.loop-line-preserved
@@ -23,6 +23,6 @@ returns c =
     let e = sym c.in_default.ensures.is in
     record {
       lines = omega (arith, i.3, no_more bytes c.loop-line.at e);
-      equal = omega (arith, i.4, none-judged bytes c.loop-line.at e);
+      equal = omega (arith, i.4, none_judged bytes c.loop-line.at e);
       within = i.2;
     }

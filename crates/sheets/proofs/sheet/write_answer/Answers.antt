@@ -3,7 +3,7 @@ use Rattle.text.specs.Lines.{lines}
 use Rattle.text.specs.Written.{overwritten}
 use Rattle.printing.specs.Printed.{words_text}
 use Rattle.sheets.specs.Listing.{listed}
-use Rattle.sheets.proofs.Rows.{words-answer}
+use Rattle.sheets.proofs.Rows.{words_answer}
 use Rattle.sheets.proofs.sheet.write_answer.Goals as goal
 
 pub print_words-requires : goal.print_words-requires
@@ -16,7 +16,7 @@ pub returns-in-Ok : goal.returns-in-Ok
 returns-in-Ok c =
     let l = c.in-Ok.ensures in
     let room = ap length c.new-store.ensures in
-    let w = ap (λ n. words_text (take n c.assemble.new.store.halfwords)) c.used.ensures ∙ words-answer c.args.input.now l.0 c.in-Ok.program.counts.used c.assemble.new.store.halfwords (subst (λ n. listed n (lines c.args.input.now) ≡ Ok l.0) room l.1.0) l.1.1.words in
+    let w = ap (λ n. words_text (take n c.assemble.new.store.halfwords)) c.used.ensures ∙ words_answer c.args.input.now l.0 c.in-Ok.program.counts.used c.assemble.new.store.halfwords (subst (λ n. listed n (lines c.args.input.now) ≡ Ok l.0) room l.1.0) l.1.1.words in
     record {
       end = c.print_words.ensures.end ∙ ap length w;
       short = c.print_words.ensures.short;

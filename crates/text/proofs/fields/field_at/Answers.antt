@@ -1,6 +1,6 @@
 use Rattle.std.proofs.Common.{sym, ap, ◌∙◌, arith}
 use Rattle.text.specs.Fields.{part}
-use Rattle.text.proofs.Commas.{part_number, part-word}
+use Rattle.text.proofs.Commas.{part_number, part_word}
 use Rattle.text.proofs.Until.{the_part}
 use Rattle.text.proofs.fields.field_at.Goals as goal
 
@@ -12,4 +12,4 @@ returns-then-starts_number c =
 pub returns-else-starts_number : goal.returns-else-starts_number
 returns-else-starts_number c =
     let e = the_part 44 c.args.line.now c.args.from c.stop-end.result c.stop-end.ensures.is in
-    part-word _ c.args.from (omega arith) (sym c.if-starts_number.ensures) ∙ ap (λ r. part r c.args.from) e
+    part_word _ c.args.from (omega arith) (sym c.if-starts_number.ensures) ∙ ap (λ r. part r c.args.from) e

@@ -1,10 +1,10 @@
 use Rattle.std.proofs.Common.{◌≡◌, drop, sym, refl, ap, ◌∙◌, arith}
 use Rattle.text.specs.Fields.{fields, begins}
-use Rattle.text.proofs.Commas.{at_more, at_last, begins-zero, begins_more, drop_next, field_there, field_any, field_nowhere, field_none}
+use Rattle.text.proofs.Commas.{at_more, at_last, begins_zero, begins_more, drop_next, field_there, field_any, field_nowhere, field_none}
 use Rattle.text.proofs.fields.start.Goals as goal
 
 pub loop-i-init : goal.loop-i-init
-loop-i-init c = (omega arith, refl, sym (begins-zero (fields c.args.line.now)))
+loop-i-init c = (omega arith, refl, sym (begins_zero (fields c.args.line.now)))
 
 pub returns-then-end-line : goal.returns-then-end-line
 returns-then-end-line c =

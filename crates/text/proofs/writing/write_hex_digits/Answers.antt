@@ -1,12 +1,12 @@
 use Rattle.std.proofs.Common.{◌+◌, ◌-◌, sym, ap, ◌∙◌, arith}
 use Rattle.text.specs.Written.{overwritten}
-use Rattle.text.proofs.Overwritten.{overwritten-none, hex-none, hex_turn}
+use Rattle.text.proofs.Overwritten.{overwritten_none, hex_none, hex_turn}
 use Rattle.text.proofs.writing.write_hex_digits.Goals as goal
 
 pub loop-k-init : goal.loop-k-init
 loop-k-init c =
-    let h = hex-none (c.args.width - c.args.width) c.args.word (omega arith) in
-    (h.0, sym (ap (overwritten c.args.out.now (c.args.at + c.args.width)) h.1 ∙ overwritten-none c.args.out.now (c.args.at + c.args.width)))
+    let h = hex_none (c.args.width - c.args.width) c.args.word (omega arith) in
+    (h.0, sym (ap (overwritten c.args.out.now (c.args.at + c.args.width)) h.1 ∙ overwritten_none c.args.out.now (c.args.at + c.args.width)))
 
 pub loop-k-preserved : goal.loop-k-preserved
 loop-k-preserved c =

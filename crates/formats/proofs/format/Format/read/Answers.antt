@@ -2,8 +2,8 @@ use Rattle.std.proofs.Common.{sym, ap, ◌∙◌, subst, ap₂}
 use Rattle.bits.specs.Layout.{word, picks, Fit}
 use Rattle.bits.proofs.Layouts.{picks_fit, picks-word}
 use Rattle.formats.specs.Layouts.{layout}
-use Rattle.formats.proofs.Sound.{layout-sound}
-use Rattle.formats.proofs.Reading.{none-some, forth, back}
+use Rattle.formats.proofs.Sound.{layout_sound}
+use Rattle.formats.proofs.Reading.{none_some, forth, back}
 use Rattle.formats.proofs.format.Format.read.Goals as goal
 
 pub returns-then-join-w : goal.returns-then-join-w
@@ -12,8 +12,8 @@ returns-then-join-w g c =
     let parts = c.layout_of-parts.ensures.is ∙ ap layout c.kind_of.ensures in
     let p = c.picked-v.ensures ∙ ap (λ s. picks s c.args.w) parts in
     record {
-      forth = λ o e. none-some _ o e;
-      back = λ o f e. absurd (c.if-join-w.true (c.join.ensures ∙ ap₂ word parts p ∙ picks-word (layout k) (g.Self.Format.values o) c.args.w (layout-sound k) e));
+      forth = λ o e. none_some _ o e;
+      back = λ o f e. absurd (c.if-join-w.true (c.join.ensures ∙ ap₂ word parts p ∙ picks-word (layout k) (g.Self.Format.values o) c.args.w (layout_sound k) e));
     }
 
 pub make-requires : goal.make-requires
@@ -21,7 +21,7 @@ make-requires g c =
     let k = g.Self.Format.kind in
     let parts = c.layout_of-parts.ensures.is ∙ ap layout c.kind_of.ensures in
     let p = c.picked-v.ensures ∙ ap (λ s. picks s c.args.w) parts in
-    record { at = subst (Fit (layout k)) (sym p) (picks_fit (layout k) c.args.w (layout-sound k)) }
+    record { at = subst (Fit (layout k)) (sym p) (picks_fit (layout k) c.args.w (layout_sound k)) }
 
 pub returns : goal.returns
 returns g c =

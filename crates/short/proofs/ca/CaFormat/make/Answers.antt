@@ -1,5 +1,5 @@
 use Rattle.bits.specs.declared.part.Field.TheVariants.{D, A, B, N, M, Opcode, Funct3, Funct}
-use Rattle.formats.proofs.Codes.{none-wide, none-there}
+use Rattle.formats.proofs.Codes.{none_wide, none_there}
 use Rattle.short.specs.declared.operands_of.CaOperands.{CaOperands}
 use Rattle.short.specs.Operands.{Ca-codes}
 use Rattle.short.proofs.ca.CaFormat.make.Goals as goal
@@ -15,4 +15,4 @@ returns c =
     let v = c.args.v.now in
     let h = c.requires.at in
     let o : CaOperands = record { opcode = v.opcode; rs2 = c.of_bits.result; funct2 = v.funct3; rd = c.of_bits-2.result; funct6 = v.funct } in
-    (none-wide (Ca-codes o) (h Opcode, (h Funct3, (h Funct, tt))), λ i. record { d = c.of_bits-2.ensures i; a = none-there v.a (h A) i; b = c.of_bits.ensures i; n = none-there v.n (h N) i; m = none-there v.m (h M) i; opcode = v.opcode; funct3 = v.funct3; funct = v.funct })
+    (none_wide (Ca-codes o) (h Opcode, (h Funct3, (h Funct, tt))), λ i. record { d = c.of_bits-2.ensures i; a = none_there v.a (h A) i; b = c.of_bits.ensures i; n = none_there v.n (h N) i; m = none_there v.m (h M) i; opcode = v.opcode; funct3 = v.funct3; funct = v.funct })

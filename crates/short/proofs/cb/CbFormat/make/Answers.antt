@@ -1,5 +1,5 @@
 use Rattle.bits.specs.declared.part.Field.TheVariants.{D, A, B, N, M, Opcode, Funct3, Funct}
-use Rattle.formats.proofs.Codes.{none-wide, none-there}
+use Rattle.formats.proofs.Codes.{none_wide, none_there}
 use Rattle.short.specs.declared.operands_of.CbOperands.{CbOperands}
 use Rattle.short.specs.Operands.{Cb-codes}
 use Rattle.short.proofs.cb.CbFormat.make.Goals as goal
@@ -15,4 +15,4 @@ returns c =
     let v = c.args.v.now in
     let h = c.requires.at in
     let o : CbOperands = record { opcode = v.opcode; imm = c.of_bits.result; rd = c.of_bits-2.result; funct2 = v.funct; funct3 = v.funct3 } in
-    (none-wide (Cb-codes o) (h Opcode, (h Funct, (h Funct3, tt))), λ i. record { d = c.of_bits-2.ensures i; a = none-there v.a (h A) i; b = none-there v.b (h B) i; n = c.of_bits.ensures i; m = none-there v.m (h M) i; opcode = v.opcode; funct3 = v.funct3; funct = v.funct })
+    (none_wide (Cb-codes o) (h Opcode, (h Funct, (h Funct3, tt))), λ i. record { d = c.of_bits-2.ensures i; a = none_there v.a (h A) i; b = none_there v.b (h B) i; n = c.of_bits.ensures i; m = none_there v.m (h M) i; opcode = v.opcode; funct3 = v.funct3; funct = v.funct })

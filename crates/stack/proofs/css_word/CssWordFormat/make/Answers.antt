@@ -1,5 +1,5 @@
 use Rattle.bits.specs.declared.part.Field.TheVariants.{D, A, B, N, M, Opcode, Funct3, Funct}
-use Rattle.formats.proofs.Codes.{none-wide, none-there}
+use Rattle.formats.proofs.Codes.{none_wide, none_there}
 use Rattle.stack.specs.declared.operands_of.CssWordOperands.{CssWordOperands}
 use Rattle.stack.specs.Operands.{CssWord-codes}
 use Rattle.stack.proofs.css_word.CssWordFormat.make.Goals as goal
@@ -15,4 +15,4 @@ returns c =
     let v = c.args.v.now in
     let h = c.requires.at in
     let o : CssWordOperands = record { opcode = v.opcode; src = c.of_bits.result; imm = c.of_bits-2.result; funct3 = v.funct3 } in
-    (none-wide (CssWord-codes o) (h Opcode, (h Funct3, tt)), λ i. record { d = none-there v.d (h D) i; a = none-there v.a (h A) i; b = c.of_bits.ensures i; n = c.of_bits-2.ensures i; m = none-there v.m (h M) i; opcode = v.opcode; funct3 = v.funct3; funct = none-there v.funct (h Funct) i })
+    (none_wide (CssWord-codes o) (h Opcode, (h Funct3, tt)), λ i. record { d = none_there v.d (h D) i; a = none_there v.a (h A) i; b = c.of_bits.ensures i; n = c.of_bits-2.ensures i; m = none_there v.m (h M) i; opcode = v.opcode; funct3 = v.funct3; funct = none_there v.funct (h Funct) i })

@@ -1,5 +1,5 @@
 use Rattle.bits.specs.declared.part.Field.TheVariants.{D, A, B, N, M, Opcode, Funct3, Funct}
-use Rattle.formats.proofs.Codes.{none-wide, none-there}
+use Rattle.formats.proofs.Codes.{none_wide, none_there}
 use Rattle.vectors.specs.declared.operands_of.VMemOperands.{VMemOperands}
 use Rattle.vectors.specs.Operands.{VMem-codes}
 use Rattle.vectors.proofs.v_mem.VMemFormat.make.Goals as goal
@@ -18,4 +18,4 @@ returns c =
     let v = c.args.v.now in
     let h = c.requires.at in
     let o : VMemOperands = record { opcode = v.opcode; vd = c.of_bits.result; width = v.funct3; rs1 = c.of_bits-2.result; masking = c.of_bits-3.result } in
-    (none-wide (VMem-codes o) (h Opcode, (h Funct3, tt)), λ i. record { d = c.of_bits.ensures i; a = c.of_bits-2.ensures i; b = none-there v.b (h B) i; n = none-there v.n (h N) i; m = c.of_bits-3.ensures i; opcode = v.opcode; funct3 = v.funct3; funct = none-there v.funct (h Funct) i })
+    (none_wide (VMem-codes o) (h Opcode, (h Funct3, tt)), λ i. record { d = c.of_bits.ensures i; a = c.of_bits-2.ensures i; b = none_there v.b (h B) i; n = none_there v.n (h N) i; m = c.of_bits-3.ensures i; opcode = v.opcode; funct3 = v.funct3; funct = none_there v.funct (h Funct) i })

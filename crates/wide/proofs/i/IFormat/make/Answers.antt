@@ -1,5 +1,5 @@
 use Rattle.bits.specs.declared.part.Field.TheVariants.{D, A, B, N, M, Opcode, Funct3, Funct}
-use Rattle.formats.proofs.Codes.{none-wide, none-there}
+use Rattle.formats.proofs.Codes.{none_wide, none_there}
 use Rattle.wide.specs.declared.operands_of.IOperands.{IOperands}
 use Rattle.wide.specs.Operands.{I-codes}
 use Rattle.wide.proofs.i.IFormat.make.Goals as goal
@@ -18,4 +18,4 @@ returns c =
     let v = c.args.v.now in
     let h = c.requires.at in
     let o : IOperands = record { opcode = v.opcode; rd = c.of_bits.result; funct3 = v.funct3; rs1 = c.of_bits-2.result; imm = c.of_bits-3.result } in
-    (none-wide (I-codes o) (h Opcode, (h Funct3, tt)), λ i. record { d = c.of_bits.ensures i; a = c.of_bits-2.ensures i; b = none-there v.b (h B) i; n = c.of_bits-3.ensures i; m = none-there v.m (h M) i; opcode = v.opcode; funct3 = v.funct3; funct = none-there v.funct (h Funct) i })
+    (none_wide (I-codes o) (h Opcode, (h Funct3, tt)), λ i. record { d = c.of_bits.ensures i; a = c.of_bits-2.ensures i; b = none_there v.b (h B) i; n = c.of_bits-3.ensures i; m = none_there v.m (h M) i; opcode = v.opcode; funct3 = v.funct3; funct = none_there v.funct (h Funct) i })

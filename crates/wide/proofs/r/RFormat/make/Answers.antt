@@ -1,5 +1,5 @@
 use Rattle.bits.specs.declared.part.Field.TheVariants.{D, A, B, N, M, Opcode, Funct3, Funct}
-use Rattle.formats.proofs.Codes.{none-wide, none-there}
+use Rattle.formats.proofs.Codes.{none_wide, none_there}
 use Rattle.wide.specs.declared.operands_of.ROperands.{ROperands}
 use Rattle.wide.specs.Operands.{R-codes}
 use Rattle.wide.proofs.r.RFormat.make.Goals as goal
@@ -18,4 +18,4 @@ returns c =
     let v = c.args.v.now in
     let h = c.requires.at in
     let o : ROperands = record { opcode = v.opcode; rd = c.of_bits.result; funct3 = v.funct3; rs1 = c.of_bits-2.result; rs2 = c.of_bits-3.result; funct7 = v.funct } in
-    (none-wide (R-codes o) (h Opcode, (h Funct3, (h Funct, tt))), λ i. record { d = c.of_bits.ensures i; a = c.of_bits-2.ensures i; b = c.of_bits-3.ensures i; n = none-there v.n (h N) i; m = none-there v.m (h M) i; opcode = v.opcode; funct3 = v.funct3; funct = v.funct })
+    (none_wide (R-codes o) (h Opcode, (h Funct3, (h Funct, tt))), λ i. record { d = c.of_bits.ensures i; a = c.of_bits-2.ensures i; b = c.of_bits-3.ensures i; n = none_there v.n (h N) i; m = none_there v.m (h M) i; opcode = v.opcode; funct3 = v.funct3; funct = v.funct })
