@@ -52,12 +52,12 @@ Answers K w least greatest aim z r =
     (v : Values) → Fit (layout K) v → true ≡ true → word (layout K) v ≡ w
     → MatchOption r (InReach least greatest z → ⊥) (λ x. InReach least greatest z × (x ≡ word (layout K) (with_n v (aim z))))
 
-pub aimed_in : (K : Kind) (least greatest : ℤ) (aim : ℤ → ℕ) → reaches K ≡ true → Distances (Signed (span (layout K) N) 2 All) least greatest aim
+pub aimed_in : (K : Kind) (least greatest : ℤ) (aim : ℤ → ℕ) → reaches K ≡ true → Distances (Some (Signed (span (layout K) N) 2 All)) least greatest aim
     → (w : ℕ) (z : ℤ) (r : Option ℕ) → Answers K w least greatest aim z r
     → (k : ℕ) (f : Fields) → k < count → lawful (form_at k) f ≡ true → (form_at k).kind ≡ K → word_of (form_at k) f ≡ w
     → r ≡ worded (aimed (reaching_only (Some (k, f))) z)
 aimed_in K least greatest aim j D w z r a k f h t p q =
     let jk : reaches (form_at k).kind ≡ true = ap reaches p ∙ j in
-    let n : (form_at k).n ≡ Signed (span (layout K) N) 2 All = jump_number k h jk ∙ ap (λ K. Signed (span (layout K) N) 2 All) p in
+    let n : (form_at k).n ≡ Some (Signed (span (layout K) N) 2 All) = jump_number k h jk ∙ ap (λ K. Some (Signed (span (layout K) N) 2 All)) p in
     aimed_answer k f z jk least greatest aim (subst (λ c. Distances c least greatest aim) (sym n) D) r
     (subst (λ K. Answers K w least greatest aim z r) (sym p) a (raw (form_at k) f) (raw_fits (form_at k) f (form_agrees k h) t) refl q)

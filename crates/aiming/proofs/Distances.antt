@@ -1,5 +1,5 @@
 -- The distance of a jump: an even number in reach, and its bits.
-use Rattle.std.proofs.Common.{◌≡◌, ℕ, suc, ◌-◌, ◌*◌, ◌/◌, ◌%◌, ◌^◌, ◌<◌, ◌≤◌, Bool, true, false, cond, ◌&&◌, eqb, ℤ, pos, negsuc, sym, refl, ap, ◌∙◌, subst, ap₂, mod-eq_of_lt, arith}
+use Rattle.std.proofs.Common.{◌≡◌, ℕ, suc, ◌-◌, ◌*◌, ◌/◌, ◌%◌, ◌^◌, ◌<◌, ◌≤◌, Bool, true, false, cond, ◌&&◌, eqb, Some, None, Option, ℤ, pos, negsuc, sym, refl, ap, ◌∙◌, subst, ap₂, mod-eq_of_lt, arith}
 use Rattle.std.proofs.lemmas.Bool.Decides.{nat_tests}
 use Rattle.std.proofs.lemmas.Int.{ints}
 use Rattle.bits.specs.declared.part.Field.TheVariants.{N}
@@ -9,7 +9,7 @@ use Rattle.formats.specs.declared.kind.Kind.{Kind}
 use Rattle.formats.specs.Layouts.{layout}
 use Rattle.operations.specs.declared.row.Allowed.TheVariants.{All, NonZero, GroupSize}
 use Rattle.operations.specs.declared.row.Number.{Number}
-use Rattle.operations.specs.declared.row.Number.TheVariants.{NoNumber, Signed, Unsigned}
+use Rattle.operations.specs.declared.row.Number.TheVariants.{Signed, Unsigned}
 use Rattle.operations.specs.declared.row.Form.{Form}
 use Rattle.operations.specs.Manual.{Entry, operations, form_at, no_entry, count}
 use Rattle.instructions.specs.Faults.{number_ok, reaches}
@@ -20,12 +20,12 @@ use Rattle.reading.proofs.Apart.{in_table}
 
 -- ---- every jump of the table has an even signed constant, as wide as its format has it
 
-abbrev is_distance : ℕ → Number → Bool
-is_distance w NoNumber = false
-is_distance w (Signed k u All) = eqb k w && eqb u 2
-is_distance w (Signed k u NonZero) = false
-is_distance w (Signed k u GroupSize) = false
-is_distance w (Unsigned k u a) = false
+abbrev is_distance : ℕ → Option Number → Bool
+is_distance w None = false
+is_distance w (Some (Signed k u All)) = eqb k w && eqb u 2
+is_distance w (Some (Signed k u NonZero)) = false
+is_distance w (Some (Signed k u GroupSize)) = false
+is_distance w (Some (Unsigned k u a)) = false
 
 abbrev jump_test : Form → Bool
 jump_test r = cond (reaches r.kind) (is_distance (span (layout r.kind) N) r.n) true
@@ -37,17 +37,14 @@ all_distances = refl
 is : (a b : ℕ) → eqb a b ≡ true → a ≡ b
 is a b t = grind (arith, nat_tests)
 
-no : (P : Type 0) → false ≡ true → P
-no P t = absurd (let z : ◌≡◌ {A = ℕ} 0 1 = cc in omega arith)
+distance_is : (w : ℕ) (c : Option Number) → is_distance w c ≡ true → c ≡ Some (Signed w 2 All)
+distance_is w None t = cc
+distance_is w (Some (Signed k u All)) t = let z = andb (eqb k w) (eqb u 2) t in ap₂ (λ x y. Some (Signed x y All)) (is k w z.0) (is u 2 z.1)
+distance_is w (Some (Signed k u NonZero)) t = cc
+distance_is w (Some (Signed k u GroupSize)) t = cc
+distance_is w (Some (Unsigned k u a)) t = cc
 
-distance_is : (w : ℕ) (c : Number) → is_distance w c ≡ true → c ≡ Signed w 2 All
-distance_is w NoNumber t = no _ t
-distance_is w (Signed k u All) t = let z = andb (eqb k w) (eqb u 2) t in ap₂ (λ x y. Signed x y All) (is k w z.0) (is u 2 z.1)
-distance_is w (Signed k u NonZero) t = no _ t
-distance_is w (Signed k u GroupSize) t = no _ t
-distance_is w (Unsigned k u a) t = no _ t
-
-pub jump_number : (k : ℕ) → k < count → reaches (form_at k).kind ≡ true → (form_at k).n ≡ Signed (span (layout (form_at k).kind) N) 2 All
+pub jump_number : (k : ℕ) → k < count → reaches (form_at k).kind ≡ true → (form_at k).n ≡ Some (Signed (span (layout (form_at k).kind) N) 2 All)
 jump_number k h j =
     let r = form_at k in
     let s = span (layout r.kind) N in
@@ -56,14 +53,14 @@ jump_number k h j =
 -- ---- which numbers are distances, and their bits
 
 -- what is said of a number as a distance
-pub record Distances (c : Number) (least greatest : ℤ) (aim : ℤ → ℕ) : Type 0 where
+pub record Distances (c : Option Number) (least greatest : ℤ) (aim : ℤ → ℕ) : Type 0 where
   pub near : (z : ℤ) → number_ok c z ≡ true → InReach least greatest z
   pub ok : (z : ℤ) → InReach least greatest z → number_ok c z ≡ true
   pub bits : (z : ℤ) → number_ok c z ≡ true → raw_number c z ≡ aim z
 
 -- k bits in units of two bytes: 2 * H even numbers, from -2 * H to 2 * H - 2
 module _ (k H : ℕ) (some : 0 < H) (half : 2 ^ (k - 1) ≡ H) (whole : 2 ^ k ≡ 2 * H) (twice : 2 ^ suc k ≡ 4 * H) where
-  in_reach : (z : ℤ) → number_ok (Signed k 2 All) z ≡ true → InReach (negsuc (2 * H - 1)) (pos (2 * H - 2)) z
+  in_reach : (z : ℤ) → number_ok (Some (Signed k 2 All)) z ≡ true → InReach (negsuc (2 * H - 1)) (pos (2 * H - 2)) z
   in_reach (pos n) t =
       let e : n % 2 ≡ 0 = grind (arith, nat_tests) in
       let l : n / 2 < 2 ^ (k - 1) = grind (arith, nat_tests) in
@@ -73,7 +70,7 @@ module _ (k H : ℕ) (some : 0 < H) (half : 2 ^ (k - 1) ≡ H) (whole : 2 ^ k �
       let l : suc n / 2 ≤ 2 ^ (k - 1) = grind (arith, nat_tests) in
       (omega (arith, ints), omega (arith, ints), e)
 
-  in_range : (z : ℤ) → InReach (negsuc (2 * H - 1)) (pos (2 * H - 2)) z → number_ok (Signed k 2 All) z ≡ true
+  in_range : (z : ℤ) → InReach (negsuc (2 * H - 1)) (pos (2 * H - 2)) z → number_ok (Some (Signed k 2 All)) z ≡ true
   in_range (pos n) r =
       let e : n % 2 ≡ 0 = r.2 in
       let l : n / 2 < 2 ^ (k - 1) = omega (arith, ints) in
@@ -83,7 +80,7 @@ module _ (k H : ℕ) (some : 0 < H) (half : 2 ^ (k - 1) ≡ H) (whole : 2 ^ k �
       let l : suc n / 2 ≤ 2 ^ (k - 1) = omega (arith, ints) in
       grind (arith, nat_tests)
 
-  its_bits : (z : ℤ) → number_ok (Signed k 2 All) z ≡ true → raw_number (Signed k 2 All) z ≡ halved k z
+  its_bits : (z : ℤ) → number_ok (Some (Signed k 2 All)) z ≡ true → raw_number (Some (Signed k 2 All)) z ≡ halved k z
   its_bits (pos n) t =
       let l : n / 2 < 2 ^ (k - 1) = grind (arith, nat_tests) in
       let m : n % 2 ^ suc k ≡ n = mod-eq_of_lt (omega arith) in
@@ -95,22 +92,22 @@ module _ (k H : ℕ) (some : 0 < H) (half : 2 ^ (k - 1) ≡ H) (whole : 2 ^ k �
       let q : 2 ^ k - suc n / 2 ≡ (2 ^ suc k - suc n) / 2 = omega arith in
       q ∙ ap (λ x. (2 ^ suc k - suc x) / 2) (sym m)
 
-  distances : Distances (Signed k 2 All) (negsuc (2 * H - 1)) (pos (2 * H - 2)) (halved k)
+  distances : Distances (Some (Signed k 2 All)) (negsuc (2 * H - 1)) (pos (2 * H - 2)) (halved k)
   distances = record { near = in_reach; ok = in_range; bits = its_bits }
 
 -- the three formats
-pub distances_B : Distances (Signed 12 2 All) (negsuc 4095) (pos 4094) (halved 12)
+pub distances_B : Distances (Some (Signed 12 2 All)) (negsuc 4095) (pos 4094) (halved 12)
 distances_B = distances 12 2048 (omega arith) refl refl refl
 
-pub distances_J : Distances (Signed 20 2 All) (negsuc 1048575) (pos 1048574) (halved 20)
+pub distances_J : Distances (Some (Signed 20 2 All)) (negsuc 1048575) (pos 1048574) (halved 20)
 distances_J = distances 20 524288 (omega arith) refl refl refl
 
-pub distances_Cj : Distances (Signed 11 2 All) (negsuc 2047) (pos 2046) (halved 11)
+pub distances_Cj : Distances (Some (Signed 11 2 All)) (negsuc 2047) (pos 2046) (halved 11)
 distances_Cj = distances 11 1024 (omega arith) refl refl refl
 
 -- in a format's jumps the constant is such a distance
-pub reach_exactly : (K : Kind) (least greatest : ℤ) (aim : ℤ → ℕ) → reaches K ≡ true → Distances (Signed (span (layout K) N) 2 All) least greatest aim → Reaches K (InReach least greatest)
+pub reach_exactly : (K : Kind) (least greatest : ℤ) (aim : ℤ → ℕ) → reaches K ≡ true → Distances (Some (Signed (span (layout K) N) 2 All)) least greatest aim → Reaches K (InReach least greatest)
 reach_exactly K least greatest aim j D k z h p =
-    let n : (form_at k).n ≡ Signed (span (layout K) N) 2 All = jump_number k h (ap reaches p ∙ j) ∙ ap (λ K. Signed (span (layout K) N) 2 All) p in
+    let n : (form_at k).n ≡ Some (Signed (span (layout K) N) 2 All) = jump_number k h (ap reaches p ∙ j) ∙ ap (λ K. Some (Signed (span (layout K) N) 2 All)) p in
     let E = subst (λ c. Distances c least greatest aim) (sym n) D in
     (E.near z, E.ok z)

@@ -43,9 +43,6 @@ one w k t =
     let z = andb (lawful (form_at k) (found_in k w)) (eqb (word_of (form_at k) (found_in k w)) w) t in
     record { ok = z.0; word = is (word_of (form_at k) (found_in k w)) w z.1 }
 
-not_both : (P : Type 0) (b : Bool) → b ≡ true → b ≡ false → P
-not_both P b t f = absurd (let z : ◌≡◌ {A = ℕ} 0 1 = cc in omega arith)
-
 pub some_same : {x y : ℕ} {f g : Fields} → ◌≡◌ {A = Option (ℕ × Fields)} (Some (x, f)) (Some (y, g)) → (x ≡ y) × (f ≡ g)
 some_same {x} {y} {f} {g} e =
     let p : ◌≡◌ {A = ℕ × Fields} (x, f) (y, g) = cc in
@@ -63,12 +60,12 @@ among_at (suc j) w k f hn hk h t e = go (λ l. among_at j w k f (omega arith) l 
         let p : j ≡ k = unconfused j k (found_in j w) f (omega arith) h o.ok t (o.word ∙ sym e) in
         ap₂ (λ x g. Some (x, g)) p (ap (λ x. found_in x w) p ∙ found w k f h t e)
     go below false y =
-        let n : k ≡ j → ⊥ = λ p. not_both ⊥ (is_one j w) (subst (λ x. is_one x w ≡ true) p (is_one_yes w k f h t e)) y in
+        let n : k ≡ j → ⊥ = λ p. let s : is_one j w ≡ true = subst (λ x. is_one x w ≡ true) p (is_one_yes w k f h t e) in cc in
         below (omega (arith, n))
 
 among_only : (n w k : ℕ) (f : Fields) → n ≤ count → among n w ≡ Some (k, f) → (k < count) × One w k f
 unfolding among
-among_only zero w k f hn e = absurd (let z : ◌≡◌ {A = ℕ} 0 1 = cc in omega arith)
+among_only zero w k f hn e = cc
 among_only (suc j) w k f hn e = go (among_only j w k f (omega arith)) (is_one j w) refl e
   where
     go : (among j w ≡ Some (k, f) → (k < count) × One w k f) → (b : Bool) → is_one j w ≡ b → cond b (Some (j, found_in j w)) (among j w) ≡ Some (k, f) → (k < count) × One w k f

@@ -18,7 +18,7 @@ use Rattle.reading.specs.Places.{word_at}
 use Rattle.aiming.specs.Standing.{instruction_of, reaching_only, jump_in, jump_at, at_distance, aimed, worded}
 use Rattle.aiming.proofs.Distances.{jump_number}
 
-distance_in : (k : ℕ) (z : ℤ) → number_ok (Signed k 2 All) z ≡ true → InRange (Signed k 2 All) z
+distance_in : (k : ℕ) (z : ℤ) → number_ok (Some (Signed k 2 All)) z ≡ true → InRange (Some (Signed k 2 All)) z
 distance_in k (pos n) t = (grind (arith, nat_tests), grind (arith, nat_tests))
 distance_in k (negsuc n) t = (grind (arith, nat_tests), grind (arith, nat_tests))
 
@@ -65,9 +65,6 @@ pub record Aimed (k : ℕ) (f : Fields) (z : ℤ) (w : ℕ) : Type 0 where
   pub word : word_of (form_at k) (at_distance f z) ≡ w
   pub is : aimed (reaching_only (Some (k, f))) z ≡ Some (k, at_distance f z)
 
-some_none : (P : Type 0) (w : ℕ) → ◌≡◌ {A = Option ℕ} (Some w) None → P
-some_none P w e = absurd (let z : ◌≡◌ {A = ℕ} 0 1 = cc in omega arith)
-
 some_is : (w x : ℕ) → ◌≡◌ {A = Option ℕ} (Some w) (Some x) → x ≡ w
 some_is w x e = cc
 
@@ -75,8 +72,8 @@ pub aimed_some : (k : ℕ) (f : Fields) (z : ℤ) (w : ℕ) → k < count → la
 aimed_some k f z w h t e = go (reaches (form_at k).kind) (number_ok (form_at k).n z) refl refl e
   where
     go : (b c : Bool) → reaches (form_at k).kind ≡ b → number_ok (form_at k).n z ≡ c → Some w ≡ worded (aimed (cond b (Some (k, f)) None) z) → Aimed k f z w
-    go false c p q e = some_none (Aimed k f z w) w e
-    go true false p q e = some_none (Aimed k f z w) w (e ∙ ap (λ c. worded (cond c (Some (k, at_distance f z)) None)) q)
+    go false c p q e = cc
+    go true false p q e = let none : ◌≡◌ {A = Option ℕ} (Some w) None = e ∙ ap (λ c. worded (cond c (Some (k, at_distance f z)) None)) q in cc
     go true true p q e =
         record {
           ok = aimed_lawful k f z h p t q;

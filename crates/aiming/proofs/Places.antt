@@ -1,17 +1,8 @@
 -- Places of a list of halfwords.
-use Rattle.std.proofs.Common.{◌≡◌, ℕ, zero, suc, ◌+◌, ◌<◌, ◌≤◌, ◌⊎◌, List, [], ◌∷◌, length, take, drop, set, Some, None, sym, refl, ap, ◌∙◌, inl, inr, le_of_suc-le-suc, not-suc-le-zero, suc-add, zero-add, arith, length-take}
+use Rattle.std.proofs.Common.{◌≡◌, ℕ, zero, suc, ◌+◌, ◌<◌, ◌≤◌, ◌⊎◌, List, [], ◌∷◌, length, take, drop, set, None, sym, refl, ap, ◌∙◌, inl, inr, le_of_suc-le-suc, not-suc-le-zero, suc-add, zero-add, arith, length-take}
 use Rattle.std.specs.List.{slice_get}
-use Rattle.std.proofs.lemmas.Option.{slice_get_past}
 use Rattle.store.specs.Puts.{applied, puts}
-
-pub nth_take : (n : ℕ) (xs : List ℕ) (i : ℕ) → i < n → slice_get (take n xs) i ≡ slice_get xs i
-nth_take zero xs i h = absurd (not-suc-le-zero h)
-nth_take (suc n) [] i h = refl
-nth_take (suc n) (x ∷ xs) zero h = refl
-nth_take (suc n) (x ∷ xs) (suc i) h = nth_take n xs i (le_of_suc-le-suc h)
-
-pub nth_take_past : (n : ℕ) (xs : List ℕ) (i : ℕ) → n ≤ i → slice_get (take n xs) i ≡ None
-nth_take_past n xs i h = slice_get_past (take n xs) i (simp length-take (omega arith))
+use Rattle.reading.proofs.Takes.{nth_take}
 
 pub nth_drop : (p : ℕ) (xs : List ℕ) (i : ℕ) → slice_get (drop p xs) i ≡ slice_get xs (p + i)
 nth_drop zero xs i = ap (slice_get xs) (sym (zero-add i))
@@ -21,12 +12,6 @@ nth_drop (suc p) (x ∷ xs) i = nth_drop p xs i ∙ ap (slice_get (x ∷ xs)) (s
 -- the halfwords from p up are hs: so are those at each place
 pub nth_part : (xs hs : List ℕ) (p n i : ℕ) → take n (drop p xs) ≡ hs → i < n → slice_get xs (p + i) ≡ slice_get hs i
 nth_part xs hs p n i e l = sym (nth_drop p xs i) ∙ sym (nth_take n (drop p xs) i l) ∙ ap (λ t. slice_get t i) e
-
--- a halfword that is there
-pub there : (xs : List ℕ) (i x : ℕ) → slice_get xs i ≡ Some x → i < length xs
-there [] i x e = absurd (let z : ◌≡◌ {A = ℕ} 0 1 = cc in omega arith)
-there (y ∷ xs) zero x e = omega arith
-there (y ∷ xs) (suc i) x e = let h = there xs i x e in omega arith
 
 -- ---- puts leave the other places
 

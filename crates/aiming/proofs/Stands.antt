@@ -1,6 +1,7 @@
 -- What a jump's halfwords say of the jump at their place, and the other way round.
 use Rattle.std.proofs.Common.{◌≡◌, ℕ, ◌+◌, ◌*◌, ◌/◌, ◌%◌, ◌<◌, ◌≤◌, Bool, true, false, cond, eqb, ◌⊎◌, List, ◌++◌, length, take, drop, ℤ, Some, None, Option, sym, refl, ap, ◌∙◌, ap₂, inl, inr, append_assoc, add-zero, div-add-mod', arith, length-take}
 use Rattle.std.specs.List.{slice_get}
+use Rattle.std.proofs.lemmas.Option.{slice_get_within}
 use Rattle.std.proofs.lemmas.List.{take_at, drop_at, length-take-le}
 use Rattle.store.specs.Puts.{applied, puts}
 use Rattle.store.proofs.Puts.{applied-puts}
@@ -14,7 +15,8 @@ use Rattle.reading.specs.Places.{with_high, begun, word_at}
 use Rattle.aiming.specs.Standing.{instruction_of, reaching_only, jump_in, jump_at, at_distance}
 use Rattle.aiming.proofs.Known.{known, only_known, some_same}
 use Rattle.aiming.proofs.Lawfuls.{aimed_lawful, halfwords_by}
-use Rattle.aiming.proofs.Places.{nth_take, nth_part, there, nth_puts_apart}
+use Rattle.reading.proofs.Takes.{nth_take}
+use Rattle.aiming.proofs.Places.{nth_part, nth_puts_apart}
 
 -- ---- sizes
 
@@ -35,9 +37,6 @@ data Begins (xs : List ℕ) (p w : ℕ) : Type 0 where
   short : slice_get xs p ≡ Some w → eqb (w % 4) 3 ≡ false → Begins xs p w
   long : (x y : ℕ) → slice_get xs p ≡ Some x → slice_get xs (p + 1) ≡ Some y → eqb (x % 4) 3 ≡ true → y * 65536 + x ≡ w → Begins xs p w
 
-none_some : {A : Type 0} (P : Type 0) (x : A) → ◌≡◌ {A = Option A} None (Some x) → P
-none_some P x e = absurd (let z : ◌≡◌ {A = ℕ} 0 1 = cc in omega arith)
-
 some_is : (x w : ℕ) → ◌≡◌ {A = Option ℕ} (Some x) (Some w) → x ≡ w
 some_is x w e = cc
 
@@ -45,7 +44,7 @@ begins : (xs : List ℕ) (p w : ℕ) → word_at xs p ≡ Some w → Begins xs p
 begins xs p w e = first (slice_get xs p) refl e
   where
     second : (x : ℕ) → slice_get xs p ≡ Some x → eqb (x % 4) 3 ≡ true → (o : Option ℕ) → slice_get xs (p + 1) ≡ o → with_high x o ≡ Some w → Begins xs p w
-    second x q t None r e = none_some (Begins xs p w) w e
+    second x q t None r e = cc
     second x q t (Some y) r e = long x y q r t (some_is (y * 65536 + x) w e)
 
     by : (x : ℕ) → slice_get xs p ≡ Some x → (b : Bool) → eqb (x % 4) 3 ≡ b → cond b (with_high x (slice_get xs (p + 1))) (Some x) ≡ Some w → Begins xs p w
@@ -53,7 +52,7 @@ begins xs p w e = first (slice_get xs p) refl e
     by x q false t e = let d = some_is x w e in short (q ∙ e) (ap (λ x. eqb (x % 4) 3) (sym d) ∙ t)
 
     first : (o : Option ℕ) → slice_get xs p ≡ o → begun o (slice_get xs (p + 1)) ≡ Some w → Begins xs p w
-    first None q e = none_some (Begins xs p w) w e
+    first None q e = cc
     first (Some x) q e = by x q (eqb (x % 4) 3) refl e
 
 begun_word : (xs : List ℕ) (p w : ℕ) → Begins xs p w → word_at xs p ≡ Some w
@@ -76,8 +75,8 @@ short_size : (w : ℕ) → eqb (w % 4) 3 ≡ false → halfwords_inside w ≡ 1
 short_size w t = ap (λ b. cond b 2 1) t
 
 begins_inside : (xs : List ℕ) (p w : ℕ) → Begins xs p w → p + halfwords_inside w ≤ length xs
-begins_inside xs p w (short q t) = let h = there xs p w q in omega (arith, short_size w t)
-begins_inside xs p w (long x y q r t e) = let h = there xs (p + 1) y r in omega (arith, long_size x y w t e)
+begins_inside xs p w (short q t) = let h = slice_get_within xs p w q in omega (arith, short_size w t)
+begins_inside xs p w (long x y q r t e) = let h = slice_get_within xs (p + 1) y r in omega (arith, long_size x y w t e)
 
 begins_kept : (xs ys : List ℕ) (p w : ℕ) → ((i : ℕ) → i < halfwords_inside w → slice_get ys (p + i) ≡ slice_get xs (p + i)) → Begins xs p w → Begins ys p w
 begins_kept xs ys p w a (short q t) =
@@ -123,18 +122,18 @@ pub record JumpHere (cells : List ℕ) (used p k : ℕ) (f : Fields) : Type 0 wh
   pub within : p + size (form_at k).kind ≤ length cells
 
 reaching_is : (o : Option (ℕ × Fields)) (k : ℕ) (f : Fields) → reaching_only o ≡ Some (k, f) → (o ≡ Some (k, f)) × (reaches (form_at k).kind ≡ true)
-reaching_is None k f e = none_some _ (k, f) e
+reaching_is None k f e = cc
 reaching_is (Some (j, g)) k f e = go (reaches (form_at j).kind) refl e
   where
     go : (b : Bool) → reaches (form_at j).kind ≡ b → cond {A = Option (ℕ × Fields)} b (Some (j, g)) None ≡ Some (k, f) → (◌≡◌ {A = Option (ℕ × Fields)} (Some (j, g)) (Some (k, f))) × (reaches (form_at k).kind ≡ true)
     go true t e = (e, ap (λ n. reaches (form_at n).kind) (sym (some_same e).0) ∙ t)
-    go false t e = none_some _ (k, f) e
+    go false t e = cc
 
 pub jump_here : (cells : List ℕ) (used p k : ℕ) (f : Fields) → jump_at cells used p ≡ Some (k, f) → JumpHere cells used p k f
 jump_here cells used p k f e = go (word_at (take used cells) p) refl e
   where
     go : (o : Option ℕ) → word_at (take used cells) p ≡ o → jump_in o ≡ Some (k, f) → JumpHere cells used p k f
-    go None q e = none_some _ (k, f) e
+    go None q e = cc
     go (Some w) q e =
         let r = reaching_is (instruction_of w) k f e in
         let i = only_known w k f r.0 in

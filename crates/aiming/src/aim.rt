@@ -1,5 +1,5 @@
 // The same jump at another distance.
-ghost use Rattle.std.specs.Prelude.{◌≡◌, ℕ, ◌%◌, ◌<◌, true, if◌then◌else◌, Some, MatchOption, ◌≢◌, nat_eq};
+ghost use Rattle.std.specs.Prelude.{◌≡◌, ℕ, ◌<◌, true, Some, MatchOption};
 ghost use Rattle.bits.specs.declared.part.Values.{Values};
 ghost use Rattle.bits.specs.Layout.{word, Fit};
 ghost use Rattle.operands.specs.Ranges.{InReach};
@@ -8,7 +8,7 @@ ghost use Rattle.formats.specs.Reaching.{with_n};
 ghost use Rattle.operations.specs.Manual.{form_at, count};
 ghost use Rattle.instructions.specs.declared.fields.Fields.{Fields};
 ghost use Rattle.instructions.specs.Faults.{lawful};
-ghost use Rattle.instructions.specs.Words.{word_of, halves, listed};
+ghost use Rattle.instructions.specs.Words.{word_of};
 ghost use Rattle.aiming.specs.Standing.{reaching_only, jump_at, aimed, worded, halfwords_found, listed_of};
 
 use crate::standing::jump_at;
@@ -42,19 +42,7 @@ fn aim_word(kind: Kind, w: u32, d: i64) -> Option<u32>
 pub fn aim(jump: &Instruction, distance: i64) -> Option<u32>
     ensures { result ≡ worded (aimed (reaching_only (Some (jump.now.op.place, jump.now.fields))) distance) }
 {
-    aim_word(known_form(jump.op()).kind, word_of(jump), distance)
-}
-
-// The halfwords of a word, the low one first: its low two bits tell how many it has.
-fn halves_of(w: u32) -> Halfwords
-    requires { (w % 4 ≢ 3) → w < 65536 }
-    ensures { listed result ≡ halves (if nat_eq (w % 4) 3 then 2 else 1) w }
-{
-    if w % 4 == 3 {
-        Halfwords::Two((w % 65536) as u16, (w / 65536) as u16)
-    } else {
-        Halfwords::One(w as u16)
-    }
+    aim_word(known_form(jump.op()).kind(), word_of(jump), distance)
 }
 
 // The halfwords of the same jump at another distance.
@@ -62,7 +50,7 @@ pub fn aimed_halfwords(jump: &Instruction, distance: i64) -> Option<Halfwords>
     ensures { listed_of result ≡ halfwords_found (aimed (reaching_only (Some (jump.now.op.place, jump.now.fields))) distance) }
 {
     let w = aim(jump, distance)?;
-    Some(halves_of(w))
+    Some(Halfwords::of(w))
 }
 
 // The halfwords of the jump at a place of the first `used`, at another distance.

@@ -2,15 +2,11 @@
 ghost use Rattle.aiming.specs.Standing.{InstructionOfExactly, AimingStands};
 
 // A word is an instruction exactly when it is that instruction's word.
-pub fn instructions_stand() -> u8
+pub fn instructions_stand()
     ensures { InstructionOfExactly }
-{
-    0
-}
+{}
 
 // How far jumps reach, and what a jump at another distance is.
-pub fn aiming_stands() -> u8
+pub fn aiming_stands()
     ensures { AimingStands }
-{
-    0
-}
+{}

@@ -4,7 +4,6 @@ ghost use Rattle.aiming.specs.Jumps.{shown, jump_built};
 
 use crate::faults::JumpFault;
 use instructions::build::known_form;
-use instructions::faults::{fault_of, is_reaching};
 use instructions::fields::Fields;
 use instructions::instruction::Instruction;
 use operations::operation::Operation;
@@ -13,8 +12,7 @@ use operations::operation::Operation;
 pub fn jump_of(op: Operation, d: i64, a: i64, b: i64) -> Result<Instruction, JumpFault>
     ensures { shown result ≡ jump_built op d a b }
 {
-    let form = known_form(op);
-    if !is_reaching(form.kind) {
+    if !known_form(op).is_jump() {
         return Err(JumpFault::NoJump);
     }
     let fields = Fields {
@@ -24,8 +22,5 @@ pub fn jump_of(op: Operation, d: i64, a: i64, b: i64) -> Result<Instruction, Jum
         n: 0,
         m: 0,
     };
-    match fault_of(&form, &fields) {
-        Some(e) => Err(JumpFault::from(e)),
-        None => Ok(Instruction::of(op, fields)),
-    }
+    Ok(Instruction::checked(op, fields)?)
 }

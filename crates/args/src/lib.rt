@@ -1,4 +1,5 @@
 //! The operations of the C extension, by the shape of their words, with their codes; and the widths of vector elements.
+// Stays: each function is one table of the manual, and no code is generic over the codes, so no trait joins them.
 #![tactic(auto)]
 
 ghost use Rattle.std.specs.Prelude.{◌≡◌, ◌<◌};

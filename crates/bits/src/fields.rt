@@ -1,4 +1,5 @@
 // One field in a word.
+// Stays: both ask of one call what no value keeps, the place and the width together.
 ghost use Rattle.std.specs.Prelude.{◌≡◌, ◌+◌, ◌*◌, ◌/◌, ◌%◌, ◌^◌, ◌<◌, ◌≤◌};
 
 // The `width` bits of `word` from `at` up.

@@ -1,5 +1,5 @@
 // Two's complement at a width, both ways.
-ghost use Rattle.std.specs.Prelude.{◌≡◌, ◌+◌, ◌^◌, ◌<◌};
+ghost use Rattle.std.specs.Prelude.{◌≡◌, ◌+◌, ◌^◌, ◌<◌, ◌≤◌};
 ghost use Rattle.std.specs.Int.Signed.{mag};
 ghost use Rattle.bits.specs.Twos.{twos, signed};
 
@@ -17,14 +17,19 @@ pub fn unsign(value: i32, width: u32) -> u32
 }
 
 // The number whose two's complement of `width` bits is `bits`.
-pub fn sign(bits: u32, width: u32) -> i32
-    requires near { bits < 2 ^ width }
-    requires narrow { width < 31 }
-    ensures { result ≡ signed width bits }
+pub fn sign(bits: u32, width: u32) -> i64
+    requires { bits < 2 ^ width }
+    ensures is { result ≡ signed width bits }
+    ensures near { mag result ≤ bits }
 {
-    if bits + bits < 1 << width {
-        bits as i32
+    if width > 32 {
+        return bits as i64;
+    }
+    let bits = bits as u64;
+    let end = 1 << width;
+    if bits + bits < end {
+        bits as i64
     } else {
-        -(((1 << width) - bits) as i32)
+        -((end - bits) as i64)
     }
 }

@@ -1,7 +1,7 @@
 //! Words of any format in a buffer of halfwords.
 #![tactic(auto)]
 
-ghost use Rattle.std.specs.Prelude.{◌≡◌, ◌+◌, ◌*◌, ◌^◌, ◌<◌, ◌≤◌, true, ◌⊎◌, length, Some, None};
+ghost use Rattle.std.specs.Prelude.{◌≡◌, ◌+◌, ◌*◌, ◌^◌, ◌<◌, ◌≤◌, true, length, Some, None};
 ghost use Rattle.bits.specs.Layout.{word};
 ghost use Rattle.formats.specs.Layouts.{layout, size};
 ghost use Rattle.formats.specs.Lawful.{outcome};
@@ -27,35 +27,35 @@ impl From<WideCode> for WriteFault {
     }
 }
 
-// Whether `n` halfwords from `at` on are there.
-fn has_room(n: usize, halfwords: &[u16], at: usize) -> bool
-    ensures { result ≡ room n halfwords.now at }
+// Whether a word of the format has room at `at`.
+fn has_room<F: Format>(halfwords: &[u16], at: usize) -> bool
+    ensures { result ≡ room (size F.kind) halfwords.now at }
 {
+    let n = F::halfwords();
     n <= halfwords.len() && at <= halfwords.len() - n
 }
 
-// The word of `n` halfwords at `at`.
-fn word_at(n: usize, halfwords: &[u16], at: usize) -> u32
-    requires few { (n ≡ 1) ⊎ (n ≡ 2) }
-    requires there { at + n ≤ length halfwords.now }
-    ensures { result ≡ word_at n halfwords.now at }
+// The word of the format at `at`.
+// Stays: by indices, since a slice of one or two halfwords would be told apart by its length again.
+fn word_at<F: Format>(halfwords: &[u16], at: usize) -> u32
+    requires { at + size F.kind ≤ length halfwords.now }
+    ensures { result ≡ word_at (size F.kind) halfwords.now at }
 {
     let low = halfwords[at] as u32;
-    if n == 2 {
+    if F::halfwords() == 2 {
         put(low, halfwords[at + 1] as u32, 16, 16)
     } else {
         low
     }
 }
 
-// Puts the word `w` of `n` halfwords at `at`.
-fn place(n: usize, halfwords: &mut [u16], at: usize, w: u32)
-    requires few { (n ≡ 1) ⊎ (n ≡ 2) }
-    requires there { at + n ≤ length halfwords.old }
-    ensures { halfwords.new ≡ placed n halfwords.old at w }
+// Puts the word `w` of the format at `at`.
+fn place<F: Format>(halfwords: &mut [u16], at: usize, w: u32)
+    requires { at + size F.kind ≤ length halfwords.old }
+    ensures { halfwords.new ≡ placed (size F.kind) halfwords.old at w }
 {
     halfwords[at] = cut(w, 0, 16) as u16;
-    if n == 2 {
+    if F::halfwords() == 2 {
         halfwords[at + 1] = cut(w, 16, 16) as u16;
     }
 }
@@ -66,11 +66,10 @@ pub fn write<F: Format>(halfwords: &mut [u16], at: usize, o: &F::Operands) -> Re
     ensures left { halfwords.new ≡ after (write_fault (F.fault o.now) (room (size F.kind) halfwords.old at)) (placed (size F.kind) halfwords.old at (word (layout F.kind) (F.values o.now))) halfwords.old }
 {
     let w = F::encode(o)?;
-    let n = F::halfwords();
-    if !has_room(n, halfwords, at) {
+    if !has_room::<F>(halfwords, at) {
         return Err(WriteFault::Room);
     }
-    place(n, halfwords, at, w);
+    place::<F>(halfwords, at, w);
     Ok(())
 }
 
@@ -79,12 +78,10 @@ pub fn read_at<F: Format>(halfwords: &[u16], at: usize) -> Option<F::Operands>
     ensures forth { (o : F.Operands) → result ≡ Some o → (F.fault o ≡ None) × (at + size F.kind ≤ length halfwords.now) × (word (layout F.kind) (F.values o) ≡ word_at (size F.kind) halfwords.now at) }
     ensures back { (o : F.Operands) → F.fault o ≡ None → at + size F.kind ≤ length halfwords.now → word (layout F.kind) (F.values o) ≡ word_at (size F.kind) halfwords.now at → result ≡ Some o }
 {
-    let n = F::halfwords();
-    if has_room(n, halfwords, at) {
-        F::read(word_at(n, halfwords, at))
-    } else {
-        None
+    if !has_room::<F>(halfwords, at) {
+        return None;
     }
+    F::read(word_at::<F>(halfwords, at))
 }
 
 // What is written is read again.

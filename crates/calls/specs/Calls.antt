@@ -1,35 +1,29 @@
 -- What each call on an open program answers, over numbers and lists: those of counts, book and store in the call's own contract, those of the listing in a program's history. Assumes nothing.
-use Rattle.std.specs.Prelude.{ℕ, ◌+◌, cond, List, length, ℤ, pos, negsuc, Some, None, Ok, Err, Option, Result, nat_le, nat_lt}
+use Rattle.std.specs.Prelude.{ℕ, cond, List, length, ℤ, pos, negsuc, Some, None, Ok, Err, Option, Result, nat_lt}
 use Rattle.instructions.specs.declared.fields.BuildFault.TheVariants as fields
 use Rattle.aiming.specs.declared.faults.JumpFault.{JumpFault}
 use Rattle.aiming.specs.Jumps.{jump_fault, unaimed}
 use Rattle.records.specs.Records.{place_of}
+use Rattle.program.specs.declared.faults.EmitFault.{EmitFault}
+use Rattle.program.specs.declared.faults.EmitFault.TheVariants as emit
+use Rattle.program.specs.Calls.{spaced}
+use Rattle.program.specs.Calls as program
 use Rattle.items.specs.Items.{Item, words, jumps}
 use Rattle.items.specs.Pairs.{register_ok, makeable}
-use Rattle.calls.specs.declared.faults.EmitFault.{EmitFault}
-use Rattle.calls.specs.declared.faults.EmitFault.TheVariants as emit
 use Rattle.calls.specs.declared.faults.ConstantFault.{ConstantFault}
 use Rattle.calls.specs.declared.faults.ConstantFault.TheVariants as constant
 use Rattle.calls.specs.declared.faults.PlaceFault.{PlaceFault}
 use Rattle.calls.specs.declared.faults.PlaceFault.TheVariants as place
 use Rattle.calls.specs.declared.faults.BindFault.{BindFault}
 use Rattle.calls.specs.declared.faults.BindFault.TheVariants as bind
-use Rattle.calls.specs.declared.faults.NoRoom.{NoRoom}
 use Rattle.calls.specs.declared.faults.NoLabel.{NoLabel}
 use Rattle.calls.specs.declared.jump.JumpTo.{JumpTo}
 
--- n halfwords more behind those used, in a store of that size: taken, or that fault
-abbrev pub spaced : {F : Type 0} → F → ℕ → ℕ → ℕ → Result (Unit {0}) F
-spaced e size used n = cond (nat_le (used + n) size) (Ok tt) (Err e)
-
--- a struct without fields has one value
-abbrev pub no_room : NoRoom
-no_room = record {}
-
 -- ---- emit
 
+-- an item that is no jump, by its halfwords
 abbrev pub emitted : ℕ → ℕ → Item → Result (Unit {0}) EmitFault
-emitted size used i = cond (jumps i) (Err (emit.Build fields.Jump)) (spaced emit.Full size used (length (words i)))
+emitted size used i = cond (jumps i) (Err (emit.Build fields.Jump)) (program.emitted size used (words i))
 
 -- ---- constant: so many slots there are
 

@@ -1,19 +1,12 @@
 -- The numbers of the refusals.
 use Rattle.std.specs.Prelude.{ℕ}
-use Rattle.instructions.specs.Numbers.{refusal as build-refusal}
 use Rattle.aiming.specs.Jumps.{refusal as jump-refusal}
-use Rattle.calls.specs.declared.faults.EmitFault.{EmitFault}
-use Rattle.calls.specs.declared.faults.EmitFault.TheVariants as emit
 use Rattle.calls.specs.declared.faults.ConstantFault.{ConstantFault}
 use Rattle.calls.specs.declared.faults.ConstantFault.TheVariants as constant
 use Rattle.calls.specs.declared.faults.PlaceFault.{PlaceFault}
 use Rattle.calls.specs.declared.faults.PlaceFault.TheVariants as place
 use Rattle.calls.specs.declared.faults.BindFault.{BindFault}
 use Rattle.calls.specs.declared.faults.BindFault.TheVariants as bind
-
-abbrev pub emit_refusal : EmitFault → ℕ
-emit_refusal (emit.Build b) = build-refusal b
-emit_refusal emit.Full = 5
 
 abbrev pub constant_refusal : ConstantFault → ℕ
 constant_refusal (constant.Register d) = 1

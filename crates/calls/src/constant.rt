@@ -6,9 +6,9 @@ ghost use Rattle.records.specs.Records.{slot_in, more_slots};
 ghost use Rattle.items.specs.Pairs.{pair};
 ghost use Rattle.calls.specs.Calls.{constanted};
 
-use crate::append::append_pair;
 use crate::faults::ConstantFault;
 use items::pair_items::{generate_imm, pair_halves, register_of};
+use program::append::append;
 use records::book::{Book, SlotRecord};
 use records::counts::Counts;
 use store::store::Store;
@@ -32,7 +32,7 @@ pub fn constant<S: Store>(
         return Err(ConstantFault::Slots);
     }
     let place = counts.used;
-    append_pair(counts, store, &pair_halves(register, high, low))?;
+    append(counts, store, &pair_halves(register, high, low))?;
     book.slots[counts.slots] = SlotRecord { place, register: d };
     counts.slots += 1;
     Ok(())

@@ -6,15 +6,16 @@ ghost use Rattle.records.specs.Records.{more_used};
 ghost use Rattle.items.specs.Items.{item_of, words};
 ghost use Rattle.calls.specs.Calls.{emitted};
 
-use crate::append::append_word;
-use crate::faults::EmitFault;
 use instructions::fields::BuildFault;
 use instructions::instruction::Instruction;
 use items::words::is_jump;
+use program::append::append_word;
+use program::faults::EmitFault;
 use records::counts::Counts;
 use store::store::Store;
 
 // Writes an instruction, but no jump, behind the halfwords used so far.
+#[tactic(auto, unfolding(items::specs::Items::words))]
 pub fn emit<S: Store>(counts: &mut Counts, store: &mut S, i: &Instruction) -> Result<(), EmitFault>
     ensures answer { result ≡ emitted (length (S.halfwords store.old)) counts.old.used (item_of i.now) }
     ensures counts { counts.new ≡ when result (more_used counts.old (length (words (item_of i.now)))) counts.old }

@@ -1,29 +1,16 @@
 // Why a call on an open program is refused.
 ghost use Rattle.std.specs.Prelude.{◌≡◌};
-ghost use Rattle.calls.specs.declared.faults.EmitFault.TheVariants as emit;
 ghost use Rattle.calls.specs.declared.faults.ConstantFault.TheVariants as constant;
 ghost use Rattle.calls.specs.declared.faults.PlaceFault.TheVariants as place;
 ghost use Rattle.calls.specs.declared.faults.BindFault.TheVariants as bind;
-ghost use Rattle.calls.specs.Numbers.{emit_refusal, constant_refusal, place_refusal, bind_refusal};
+ghost use Rattle.calls.specs.Numbers.{constant_refusal, place_refusal, bind_refusal};
 
 use aiming::faults::JumpFault;
-use instructions::fields::BuildFault;
-
-// The store ends too soon.
-#[derive(Clone, Copy)]
-pub struct NoRoom;
+use program::faults::NoRoom;
 
 // A label outside 0 to 63.
 #[derive(Clone, Copy)]
 pub struct NoLabel(pub i64);
-
-#[derive(Clone, Copy, PartialEq, Eq, Debug)]
-pub enum EmitFault {
-    // there is no such instruction, or it is a jump
-    Build(BuildFault),
-    // the store ends too soon
-    Full,
-}
 
 #[derive(Clone, Copy, PartialEq, Eq, Debug)]
 pub enum ConstantFault {
@@ -56,22 +43,6 @@ pub enum BindFault {
     Label(i64),
     // the label is bound
     Bound(i64),
-}
-
-impl From<BuildFault> for EmitFault {
-    ghost from_gives = { λ b e. e ≡ emit.Build b };
-
-    fn from(b: BuildFault) -> EmitFault {
-        EmitFault::Build(b)
-    }
-}
-
-impl From<NoRoom> for EmitFault {
-    ghost from_gives = { λ n e. e ≡ emit.Full };
-
-    fn from(_n: NoRoom) -> EmitFault {
-        EmitFault::Full
-    }
 }
 
 impl From<NoRoom> for ConstantFault {
@@ -114,20 +85,8 @@ impl From<NoLabel> for BindFault {
     }
 }
 
-impl EmitFault {
-    // The number of the refusal.
-    pub fn number(&self) -> u8
-        ensures { result ≡ emit_refusal self.now }
-    {
-        match self {
-            EmitFault::Build(b) => b.number(),
-            EmitFault::Full => 5,
-        }
-    }
-}
-
 impl ConstantFault {
-    // The number of the refusal.
+    // The number of the refusal. Stays a number: callers are told it, as docs/REFUSALS.md lists it.
     pub fn number(&self) -> u8
         ensures { result ≡ constant_refusal self.now }
     {
@@ -141,7 +100,7 @@ impl ConstantFault {
 }
 
 impl PlaceFault {
-    // The number of the refusal.
+    // The number of the refusal. Stays a number: callers are told it, as docs/REFUSALS.md lists it.
     pub fn number(&self) -> u8
         ensures { result ≡ place_refusal self.now }
     {
@@ -155,7 +114,7 @@ impl PlaceFault {
 }
 
 impl BindFault {
-    // The number of the refusal.
+    // The number of the refusal. Stays a number: callers are told it, as docs/REFUSALS.md lists it.
     pub fn number(&self) -> u8
         ensures { result ≡ bind_refusal self.now }
     {

@@ -1,5 +1,5 @@
 // Labels by number.
-ghost use Rattle.std.specs.Prelude.{◌≡◌, Ok, Err};
+ghost use Rattle.std.specs.Prelude.{◌≡◌};
 ghost use Rattle.calls.specs.Calls.{known};
 
 use crate::faults::NoLabel;
@@ -8,9 +8,8 @@ use crate::faults::NoLabel;
 pub fn label_of(label: i64) -> Result<usize, NoLabel>
     ensures { result ≡ known label }
 {
-    if label >= 0 && label <= 63 {
-        Ok(label.unsigned_abs() as usize)
-    } else {
-        Err(NoLabel(label))
+    match usize::try_from(label) {
+        Ok(number) if number < 64 => Ok(number),
+        _ => Err(NoLabel(label)),
     }
 }

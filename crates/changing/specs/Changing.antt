@@ -1,6 +1,7 @@
 -- What a change and a value answer, and what a change leaves. Assumes nothing.
-use Rattle.std.specs.Prelude.{ℕ, suc, ◌+◌, Bool, true, false, cond, ◌&&◌, List, [], ◌∷◌, ◌++◌, length, ℤ, pos, negsuc, Some, None, Ok, Err, Option, Result, ◌==◌, nat_le}
-use Rattle.std.specs.List.{slice_get}
+use Rattle.std.specs.Prelude.{ℕ, suc, ◌+◌, Bool, false, cond, ◌&&◌, List, [], ◌∷◌, ◌++◌, length, ℤ, pos, negsuc, Some, None, Ok, Err, Option, Result, nat_le}
+use Rattle.std.specs.Ordering.{int_eq}
+use Rattle.std.specs.List.{slice_get, list_any}
 use Rattle.store.specs.Puts.{applied, puts}
 use Rattle.records.specs.declared.book.SlotRecord.{SlotRecord}
 use Rattle.records.specs.Records.{slot_of}
@@ -39,27 +40,25 @@ abbrev pub inside : ℕ → Option (ℕ × ℤ) → Bool
 inside used None = false
 inside used (Some s) = nat_le (s.0 + 4) used && register_ok s.1
 
-abbrev pub same_number : ℤ → ℤ → Bool
-same_number (pos a) (pos b) = a == b
-same_number (pos a) (negsuc b) = false
-same_number (negsuc a) (pos b) = false
-same_number (negsuc a) (negsuc b) = a == b
-
-abbrev pub no_edit : Edit
-no_edit = record { slot = pos 0; value = pos 0 }
-
 -- an entry names that slot
 abbrev pub named : List Edit → ℤ → Bool
-named [] s = false
-named (e ∷ es) s = cond (same_number e.slot s) true (named es s)
+named es s = list_any (λ e. int_eq e.slot s) es
+
+-- what is wrong with an entry: whether its slot is there, and whether it was named before
+abbrev pub entry_judged : Bool → Bool → Edit → Result (Unit {0}) EntryCause
+entry_judged there before e =
+    cond there (cond before (Err (entry.Again e.slot)) (cond (makeable e.value) (Ok tt) (Err (entry.Range e.value)))) (Err (entry.NoSlot e.slot))
 
 abbrev pub bad : ℕ → EntryCause → Verdict
 bad k cause = Err (change.Entry (record { entry = k; cause = cause }))
 
--- the entry k: whether its slot is there, whether it was named before, and what is said of the entries after it
+-- the entry k, and what is said of the entries after it
+abbrev pub or_bad : ℕ → Result (Unit {0}) EntryCause → Verdict → Verdict
+or_bad k (Ok u) rest = rest
+or_bad k (Err cause) rest = bad k cause
+
 abbrev pub edit_judged : ℕ → Bool → Bool → Edit → Verdict → Verdict
-edit_judged k there before e rest =
-    cond there (cond before (bad k (entry.Again e.slot)) (cond (makeable e.value) rest (bad k (entry.Range e.value)))) (bad k (entry.NoSlot e.slot))
+edit_judged k there before e rest = or_bad k (entry_judged there before e) rest
 
 -- over the entries in order, the first that fails: the slots, how much is used, and the entries before
 abbrev pub changed_from : ℕ → List (ℕ × ℤ) → ℕ → List Edit → List Edit → Verdict
@@ -72,6 +71,11 @@ abbrev pub changed_answer : ℕ → ℕ → List (ℕ × ℤ) → List Edit → 
 changed_answer size used slots es = cond (nat_le used size) (changed_from 0 slots used [] es) (Err change.Full)
 
 -- ---- what is put: the pair of each entry's slot, with its new value
+
+-- four halfwords from a place up
+abbrev pub written : Option (ℕ × List ℕ) → List (ℕ × ℕ)
+written None = []
+written (Some w) = puts w.0 w.1
 
 abbrev pub pair_puts : ℕ → ℤ → Option (ℕ × ℤ) → List (ℕ × ℕ)
 pair_puts used v None = []

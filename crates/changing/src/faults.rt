@@ -1,6 +1,6 @@
 // Why a change is refused, or a value not told.
 ghost use Rattle.std.specs.Prelude.{◌≡◌};
-ghost use Rattle.changing.specs.Numbers.{change_refusal, value_refusal};
+ghost use Rattle.changing.specs.Numbers.{cause_number, change_refusal, value_refusal};
 
 // What is wrong with an entry of a change.
 #[derive(Clone, Copy, PartialEq, Eq, Debug)]
@@ -36,24 +36,33 @@ pub enum ValueFault {
     NoSlot(i64),
 }
 
+impl EntryCause {
+    // The number of the refusal. Stays a number: callers are told it, as docs/REFUSALS.md lists it.
+    fn number(&self) -> u8
+        ensures { result ≡ cause_number self.now }
+    {
+        match self {
+            EntryCause::NoSlot(_) => 12,
+            EntryCause::Again(_) => 13,
+            EntryCause::Range(_) => 2,
+        }
+    }
+}
+
 impl ChangeFault {
-    // The number of the refusal.
+    // The number of the refusal. Stays a number: callers are told it, as docs/REFUSALS.md lists it.
     pub fn number(&self) -> u8
         ensures { result ≡ change_refusal self.now }
     {
         match self {
             ChangeFault::Full => 5,
-            ChangeFault::Entry(bad) => match bad.cause {
-                EntryCause::NoSlot(_) => 12,
-                EntryCause::Again(_) => 13,
-                EntryCause::Range(_) => 2,
-            },
+            ChangeFault::Entry(bad) => bad.cause.number(),
         }
     }
 }
 
 impl ValueFault {
-    // The number of the refusal.
+    // The number of the refusal. Stays a number: callers are told it, as docs/REFUSALS.md lists it.
     pub fn number(&self) -> u8
         ensures { result ≡ value_refusal self.now }
     {

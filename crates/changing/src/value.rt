@@ -1,5 +1,5 @@
 // Value: the number that a slot holds, by the bits at its place.
-ghost use Rattle.std.specs.Prelude.{◌≡◌, ◌<◌, length, slice_index};
+ghost use Rattle.std.specs.Prelude.{◌≡◌, length, slice_index};
 ghost use Rattle.items.specs.Pairs.{held_at};
 ghost use Rattle.records.specs.Records.{slots_in};
 ghost use Rattle.changing.specs.Changing.{valued};
@@ -15,10 +15,7 @@ use store::store::Store;
 fn half_at<S: Store>(store: &S, place: usize) -> u16
     ensures { result ≡ slice_index (S.halfwords store.now) place }
 {
-    match store.get(place) {
-        Some(half) => half,
-        None => 0,
-    }
+    store.get(place).unwrap_or(0)
 }
 
 // The number in the four halfwords from a place up.
@@ -42,13 +39,7 @@ pub fn value<S: Store>(counts: Counts, store: &S, book: &Book, slot: i64) -> Res
         return Err(ValueFault::Full);
     }
     match slot_of(book, counts, slot) {
-        None => Err(ValueFault::NoSlot(slot)),
-        Some(found) => {
-            if found.place <= counts.used && counts.used - found.place >= 4 {
-                Ok(read_pair(store, found.place))
-            } else {
-                Err(ValueFault::NoSlot(slot))
-            }
-        }
+        Some(found) if found.fits(counts.used) => Ok(read_pair(store, found.place)),
+        _ => Err(ValueFault::NoSlot(slot)),
     }
 }

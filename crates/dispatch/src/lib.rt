@@ -7,75 +7,70 @@ ghost use Rattle.bits.specs.Layout.{word, Fit};
 ghost use Rattle.formats.specs.Layouts.{layout};
 ghost use Rattle.formats.specs.Lawful.{Fits};
 
+use bits::layout::Layout;
 use bits::part::Values;
 use formats::by::{values_by, word_by};
+use formats::format::Format;
 use formats::kind::Kind;
+
+// `$run` at the format of the kind.
+macro_rules! by_format {
+    ($kind:expr, $run:ident $(, $from:expr)?) => {
+        match $kind {
+            Kind::R => $run::<wide::r::R>($($from)?),
+            Kind::I => $run::<wide::i::I>($($from)?),
+            Kind::S => $run::<wide::s::S>($($from)?),
+            Kind::U => $run::<wide::u::U>($($from)?),
+            Kind::B => $run::<jumps::b::B>($($from)?),
+            Kind::J => $run::<jumps::j::J>($($from)?),
+            Kind::V => $run::<vectors::v::V>($($from)?),
+            Kind::VImm => $run::<vectors::v_imm::VImm>($($from)?),
+            Kind::VMem => $run::<vectors::v_mem::VMem>($($from)?),
+            Kind::Cr => $run::<short::cr::Cr>($($from)?),
+            Kind::Cr2 => $run::<short::cr2::Cr2>($($from)?),
+            Kind::CrBare => $run::<short::cr_bare::CrBare>($($from)?),
+            Kind::Ca => $run::<short::ca::Ca>($($from)?),
+            Kind::Cj => $run::<jumps::cj::Cj>($($from)?),
+            Kind::Ci => $run::<short::ci::Ci>($($from)?),
+            Kind::CiLwsp => $run::<stack::ci_load::CiLwsp>($($from)?),
+            Kind::CiLdsp => $run::<stack::ci_load::CiLdsp>($($from)?),
+            Kind::CiAddi16sp => $run::<stack::ci_addi16sp::CiAddi16sp>($($from)?),
+            Kind::Ciw => $run::<short::ciw::Ciw>($($from)?),
+            Kind::Cb => $run::<short::cb::Cb>($($from)?),
+            Kind::CssWord => $run::<stack::css::CssWord>($($from)?),
+            Kind::CssDouble => $run::<stack::css::CssDouble>($($from)?),
+            Kind::CsWord => $run::<memory::cs::CsWord>($($from)?),
+            Kind::CsDouble => $run::<memory::cs::CsDouble>($($from)?),
+            Kind::ClWord => $run::<memory::cl::ClWord>($($from)?),
+            Kind::ClDouble => $run::<memory::cl::ClDouble>($($from)?),
+        }
+    };
+}
+
+fn layout_by<F: Format>() -> Layout<'static>
+    ensures { result.parts.now ≡ layout F.kind }
+{
+    F::layout()
+}
+
+// The layout of the kind.
+pub fn layout_of(kind: Kind) -> Layout<'static>
+    ensures { result.parts.now ≡ layout kind }
+{
+    by_format!(kind, layout_by)
+}
 
 // The word of fields that fit the kind.
 pub fn word_for(kind: Kind, v: &Values) -> u32
     requires { Fits kind v.now }
     ensures { result ≡ word (layout kind) v.now }
 {
-    match kind {
-        Kind::R => word_by::<wide::r::R>(v),
-        Kind::I => word_by::<wide::i::I>(v),
-        Kind::S => word_by::<wide::s::S>(v),
-        Kind::U => word_by::<wide::u::U>(v),
-        Kind::B => word_by::<jumps::b::B>(v),
-        Kind::J => word_by::<jumps::j::J>(v),
-        Kind::V => word_by::<vectors::v::V>(v),
-        Kind::VImm => word_by::<vectors::v_imm::VImm>(v),
-        Kind::VMem => word_by::<vectors::v_mem::VMem>(v),
-        Kind::Cr => word_by::<short::cr::Cr>(v),
-        Kind::Cr2 => word_by::<short::cr2::Cr2>(v),
-        Kind::CrBare => word_by::<short::cr_bare::CrBare>(v),
-        Kind::Ca => word_by::<short::ca::Ca>(v),
-        Kind::Cj => word_by::<jumps::cj::Cj>(v),
-        Kind::Ci => word_by::<short::ci::Ci>(v),
-        Kind::CiLwsp => word_by::<stack::ci_lwsp::CiLwsp>(v),
-        Kind::CiLdsp => word_by::<stack::ci_ldsp::CiLdsp>(v),
-        Kind::CiAddi16sp => word_by::<stack::ci_addi16sp::CiAddi16sp>(v),
-        Kind::Ciw => word_by::<short::ciw::Ciw>(v),
-        Kind::Cb => word_by::<short::cb::Cb>(v),
-        Kind::CssWord => word_by::<stack::css_word::CssWord>(v),
-        Kind::CssDouble => word_by::<stack::css_double::CssDouble>(v),
-        Kind::CsWord => word_by::<memory::cs_word::CsWord>(v),
-        Kind::CsDouble => word_by::<memory::cs_double::CsDouble>(v),
-        Kind::ClWord => word_by::<memory::cl_word::ClWord>(v),
-        Kind::ClDouble => word_by::<memory::cl_double::ClDouble>(v),
-    }
+    by_format!(kind, word_by, v)
 }
 
 // The fields of a word of the kind: none where no fields that fit have that word.
 pub fn values_for(kind: Kind, w: u32) -> Option<Values>
     ensures { MatchOption result ((v : Values) → Fit (layout kind) v → word (layout kind) v ≢ w) (λ v. Fit (layout kind) v × (word (layout kind) v ≡ w)) }
 {
-    match kind {
-        Kind::R => values_by::<wide::r::R>(w),
-        Kind::I => values_by::<wide::i::I>(w),
-        Kind::S => values_by::<wide::s::S>(w),
-        Kind::U => values_by::<wide::u::U>(w),
-        Kind::B => values_by::<jumps::b::B>(w),
-        Kind::J => values_by::<jumps::j::J>(w),
-        Kind::V => values_by::<vectors::v::V>(w),
-        Kind::VImm => values_by::<vectors::v_imm::VImm>(w),
-        Kind::VMem => values_by::<vectors::v_mem::VMem>(w),
-        Kind::Cr => values_by::<short::cr::Cr>(w),
-        Kind::Cr2 => values_by::<short::cr2::Cr2>(w),
-        Kind::CrBare => values_by::<short::cr_bare::CrBare>(w),
-        Kind::Ca => values_by::<short::ca::Ca>(w),
-        Kind::Cj => values_by::<jumps::cj::Cj>(w),
-        Kind::Ci => values_by::<short::ci::Ci>(w),
-        Kind::CiLwsp => values_by::<stack::ci_lwsp::CiLwsp>(w),
-        Kind::CiLdsp => values_by::<stack::ci_ldsp::CiLdsp>(w),
-        Kind::CiAddi16sp => values_by::<stack::ci_addi16sp::CiAddi16sp>(w),
-        Kind::Ciw => values_by::<short::ciw::Ciw>(w),
-        Kind::Cb => values_by::<short::cb::Cb>(w),
-        Kind::CssWord => values_by::<stack::css_word::CssWord>(w),
-        Kind::CssDouble => values_by::<stack::css_double::CssDouble>(w),
-        Kind::CsWord => values_by::<memory::cs_word::CsWord>(w),
-        Kind::CsDouble => values_by::<memory::cs_double::CsDouble>(w),
-        Kind::ClWord => values_by::<memory::cl_word::ClWord>(w),
-        Kind::ClDouble => values_by::<memory::cl_double::ClDouble>(w),
-    }
+    by_format!(kind, values_by, w)
 }

@@ -13,11 +13,12 @@ ghost use Rattle.encoders.specs.Encodings.{answered, fields, unit_stride, jumped
 
 use crate::faults::EncodeFault;
 use args::{CaOp, CbOp, CiOp, CiwOp, CjOp, ClOp, CrOp, CsOp, CssOp, VecElementWidth};
-use bits::fields::put;
-use formats::faults::WideCode;
+use bits::layout::Layout;
+use bits::part::{Field, Part, Values};
+use formats::faults::{WideCode, narrow};
 use formats::format::Format;
 use jumps::operands_of::{BOperands, CjOperands, JOperands};
-use memory::operands_of::{ClDoubleOperands, ClWordOperands, CsDoubleOperands, CsWordOperands};
+use memory::operands_of::{ClOperands, CsOperands};
 use operands::distances::{BDistance, CjDistance, JDistance};
 use operands::imms::{Imm5, Imm6, Imm12, Imm20, UImm5, Uimm6, Uimm8};
 use operands::masking::VecOpMasking;
@@ -25,9 +26,7 @@ use operands::regs::{Reg, ShortReg};
 use short::operands_of::{
     CaOperands, CbOperands, CiOperands, CiwOperands, Cr2Operands, CrOperands,
 };
-use stack::operands_of::{
-    CiAddi16spOperands, CiLdspOperands, CiLwspOperands, CssDoubleOperands, CssWordOperands,
-};
+use stack::operands_of::{CiAddi16spOperands, CiLoadOperands, CssOperands};
 use vectors::operands_of::{VImmOperands, VOperands};
 use wide::operands_of::{IOperands, ROperands, SOperands, UOperands};
 
@@ -35,8 +34,7 @@ use wide::operands_of::{IOperands, ROperands, SOperands, UOperands};
 fn wide_word<F: Format>(o: &F::Operands) -> Result<u32, EncodeFault>
     ensures { result ≡ answered (F.fault o.now) (word (layout F.kind) (F.values o.now)) }
 {
-    let w = F::encode(o)?;
-    Ok(w)
+    Ok(F::encode(o)?)
 }
 
 // The word of lawful operands in one halfword.
@@ -45,10 +43,7 @@ fn short_word<F: Format>(o: &F::Operands) -> u16
     requires lawful { F.fault o.now ≡ None }
     ensures { result ≡ word (layout F.kind) (F.values o.now) }
 {
-    match F::encode(o) {
-        Ok(w) => w as u16,
-        Err(_) => unreachable(),
-    }
+    F::encode(o).unwrap() as u16
 }
 
 pub fn encode_r_type(
@@ -235,14 +230,12 @@ pub fn encode_ca_type(op: CaOp, rd: ShortReg, rs2: ShortReg) -> u16
 pub fn encode_cj_type(op: CjOp, imm: Imm12) -> Result<u16, EncodeFault>
     ensures { result ≡ jumped (space (CjOp-op op)) (CjOp-funct3 op) imm.value }
 {
-    match CjDistance::new(imm.as_i16() as i64) {
-        Some(distance) => Ok(short_word::<jumps::cj::Cj>(&CjOperands {
-            opcode: op.op().bits(),
-            distance,
-            funct3: op.funct3(),
-        })),
-        None => Err(EncodeFault::Odd(imm.as_i16())),
-    }
+    let distance = CjDistance::new(i64::from(imm.as_i16())).ok_or(EncodeFault::Odd(imm.as_i16()))?;
+    Ok(short_word::<jumps::cj::Cj>(&CjOperands {
+        opcode: op.op().bits(),
+        distance,
+        funct3: op.funct3(),
+    }))
 }
 
 pub fn encode_ci_type(op: CiOp, rd: Reg, imm: Imm6) -> u16
@@ -261,20 +254,15 @@ pub fn encode_ci_type(op: CiOp, rd: Reg, imm: Imm6) -> u16
 pub fn encode_ci_sp_load(op: CiOp, rd: Reg, imm: Uimm6) -> Result<u16, EncodeFault>
     ensures { result ≡ loaded (sp_load op) (fields rd.num.value 0 0 imm.value 0 (space (CiOp-op op)) (CiOp-funct3 op) 0) }
 {
-    let (opcode, funct3) = (op.op().bits(), op.funct3());
+    let load = CiLoadOperands {
+        opcode: op.op().bits(),
+        imm,
+        rd: rd.num,
+        funct3: op.funct3(),
+    };
     match op {
-        CiOp::CLwsp => Ok(short_word::<stack::ci_lwsp::CiLwsp>(&CiLwspOperands {
-            opcode,
-            imm,
-            rd: rd.num,
-            funct3,
-        })),
-        CiOp::CLdsp | CiOp::CFldsp => Ok(short_word::<stack::ci_ldsp::CiLdsp>(&CiLdspOperands {
-            opcode,
-            imm,
-            rd: rd.num,
-            funct3,
-        })),
+        CiOp::CLwsp => Ok(short_word::<stack::ci_load::CiLwsp>(&load)),
+        CiOp::CLdsp | CiOp::CFldsp => Ok(short_word::<stack::ci_load::CiLdsp>(&load)),
         _ => Err(EncodeFault::Operation),
     }
 }
@@ -320,22 +308,15 @@ pub fn encode_cb_type(op: CbOp, rd: ShortReg, imm: Imm6) -> u16
 pub fn encode_css_type(op: CssOp, src: Reg, imm: Uimm6) -> u16
     ensures { result ≡ word (layout (sp_store op)) (fields 0 0 src.num.value imm.value 0 (space (CssOp-op op)) (CssOp-funct3 op) 0) }
 {
-    let (opcode, funct3) = (op.op().bits(), op.funct3());
+    let store = CssOperands {
+        opcode: op.op().bits(),
+        src: src.num,
+        imm,
+        funct3: op.funct3(),
+    };
     match op {
-        CssOp::CSwsp => short_word::<stack::css_word::CssWord>(&CssWordOperands {
-            opcode,
-            src: src.num,
-            imm,
-            funct3,
-        }),
-        CssOp::CSdsp | CssOp::CFsdsp => short_word::<stack::css_double::CssDouble>(
-            &CssDoubleOperands {
-                opcode,
-                src: src.num,
-                imm,
-                funct3,
-            },
-        ),
+        CssOp::CSwsp => short_word::<stack::css::CssWord>(&store),
+        CssOp::CSdsp | CssOp::CFsdsp => short_word::<stack::css::CssDouble>(&store),
     }
 }
 
@@ -343,23 +324,17 @@ pub fn encode_css_type(op: CssOp, src: Reg, imm: Uimm6) -> u16
 pub fn encode_cs_type(op: CsOp, src: ShortReg, base: ShortReg, imm: UImm5) -> u16
     ensures { result ≡ word (layout (store_kind op)) (fields 0 base.num.value src.num.value imm.value 0 (space (CsOp-op op)) (CsOp-funct3 op) 0) }
 {
-    let (opcode, funct3) = (op.op().bits(), op.funct3());
     let (src, base) = (src.num, base.num);
+    let store = CsOperands {
+        opcode: op.op().bits(),
+        src,
+        base,
+        imm,
+        funct3: op.funct3(),
+    };
     match op {
-        CsOp::CSw => short_word::<memory::cs_word::CsWord>(&CsWordOperands {
-            opcode,
-            src,
-            base,
-            imm,
-            funct3,
-        }),
-        CsOp::CSd | CsOp::CFsd => short_word::<memory::cs_double::CsDouble>(&CsDoubleOperands {
-            opcode,
-            src,
-            base,
-            imm,
-            funct3,
-        }),
+        CsOp::CSw => short_word::<memory::cs::CsWord>(&store),
+        CsOp::CSd | CsOp::CFsd => short_word::<memory::cs::CsDouble>(&store),
     }
 }
 
@@ -367,25 +342,33 @@ pub fn encode_cs_type(op: CsOp, src: ShortReg, base: ShortReg, imm: UImm5) -> u1
 pub fn encode_cl_type(op: ClOp, dest: ShortReg, base: ShortReg, imm: UImm5) -> u16
     ensures { result ≡ word (layout (load_kind op)) (fields dest.num.value base.num.value 0 imm.value 0 (space (ClOp-op op)) (ClOp-funct3 op) 0) }
 {
-    let (opcode, funct3) = (op.op().bits(), op.funct3());
     let (rd, base) = (dest.num, base.num);
+    let load = ClOperands {
+        opcode: op.op().bits(),
+        rd,
+        base,
+        imm,
+        funct3: op.funct3(),
+    };
     match op {
-        ClOp::CLw => short_word::<memory::cl_word::ClWord>(&ClWordOperands {
-            opcode,
-            rd,
-            base,
-            imm,
-            funct3,
-        }),
-        ClOp::CLd | ClOp::CFld => short_word::<memory::cl_double::ClDouble>(&ClDoubleOperands {
-            opcode,
-            rd,
-            base,
-            imm,
-            funct3,
-        }),
+        ClOp::CLw => short_word::<memory::cl::ClWord>(&load),
+        ClOp::CLd | ClOp::CFld => short_word::<memory::cl::ClDouble>(&load),
     }
 }
+
+// A unit-stride vector load or store, from bit 0 up: opcode, vd or vs3, width, rs1, lumop or sumop, vm, mop, mew, nf. Here lumop or sumop is
+// the field b, mop the field n and nf the field funct.
+const UNIT_STRIDE: [Part; 9] = [
+    Part::Slice(Field::Opcode, 0, 7),
+    Part::Slice(Field::D, 0, 5),
+    Part::Slice(Field::Funct3, 0, 3),
+    Part::Slice(Field::A, 0, 5),
+    Part::Slice(Field::B, 0, 5),
+    Part::Slice(Field::M, 0, 1),
+    Part::Slice(Field::N, 0, 2),
+    Part::Fixed(1, 0),
+    Part::Slice(Field::Funct, 0, 3),
+];
 
 // A unit-stride vector load.
 pub fn encode_vmem_load(
@@ -400,27 +383,23 @@ pub fn encode_vmem_load(
 ) -> Result<u32, EncodeFault>
     ensures { result ≡ answered (first_wide (check opcode 7 Opcode ∷ check lumop 5 Lumop ∷ check mop 2 Mop ∷ check nf 3 Nf ∷ [])) (word unit_stride (fields vd.num.value rs1.num.value lumop mop (mask_bit masking) opcode (width_code width) nf)) }
 {
-    if opcode >= 128 {
-        return Err(EncodeFault::Code(WideCode::Opcode(opcode)));
-    }
-    if lumop >= 32 {
-        return Err(EncodeFault::Code(WideCode::Lumop(lumop)));
-    }
-    if mop >= 4 {
-        return Err(EncodeFault::Code(WideCode::Mop(mop)));
-    }
-    if nf >= 8 {
-        return Err(EncodeFault::Code(WideCode::Nf(nf)));
-    }
-    let mut bits = opcode;
-    bits = put(bits, vd.num.value(), 7, 5);
-    bits = put(bits, width.code(), 12, 3);
-    bits = put(bits, rs1.num.value(), 15, 5);
-    bits = put(bits, lumop, 20, 5);
-    bits = put(bits, masking.encode(), 25, 1);
-    bits = put(bits, mop, 26, 2);
-    bits = put(bits, nf, 29, 3);
-    Ok(bits)
+    narrow(WideCode::Opcode(opcode), 7)?;
+    narrow(WideCode::Lumop(lumop), 5)?;
+    narrow(WideCode::Mop(mop), 2)?;
+    narrow(WideCode::Nf(nf), 3)?;
+    let load = Layout {
+        parts: &UNIT_STRIDE,
+    };
+    Ok(load.join(&Values {
+        d: vd.num.value(),
+        a: rs1.num.value(),
+        b: lumop,
+        n: mop,
+        m: masking.encode(),
+        opcode,
+        funct3: width.code(),
+        funct: nf,
+    }))
 }
 
 // A unit-stride vector store: the load's word, with the stored register for the loaded one.

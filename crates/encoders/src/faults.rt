@@ -16,13 +16,12 @@ pub enum EncodeFault {
 }
 
 impl EncodeFault {
-    // The number of the refusal.
+    // The number of the refusal. Stays a number: callers are told it, as docs/REFUSALS.md lists it.
     pub fn number(&self) -> u32
         ensures { result ≡ fault_number self.now }
     {
         match self {
-            EncodeFault::Code(_) => 2,
-            EncodeFault::Odd(_) => 2,
+            EncodeFault::Code(_) | EncodeFault::Odd(_) => 2,
             EncodeFault::Operation => 3,
         }
     }

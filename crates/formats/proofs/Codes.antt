@@ -1,7 +1,7 @@
 -- Codes that fit their places, and fields that have no place.
-use Rattle.std.proofs.Common.{◌≡◌, ℕ, ◌^◌, ◌<◌, Bool, true, false, cond, ltb, List, [], ◌∷◌, Some, None, Ok, Err, Option, Result, sym, refl, ap, subst, arith}
+use Rattle.std.proofs.Common.{◌≡◌, ℕ, ◌^◌, ◌<◌, Bool, true, false, cond, ltb, List, [], ◌∷◌, Some, None, sym, refl, subst, arith}
 use Rattle.std.proofs.lemmas.Bool.Decides.{nat_tests}
-use Rattle.formats.specs.Lawful.{Check, check, first_wide, Narrow, outcome}
+use Rattle.formats.specs.Lawful.{Check, check, first_wide, Narrow}
 
 -- lawful operands have narrow codes
 pub narrow : (s : List Check) → first_wide s ≡ None → Narrow s
@@ -23,10 +23,3 @@ none_wide (check v k e ∷ s) n =
 -- a field that has no bits is 0
 pub none_there : (n : ℕ) → n < 1 → 0 ≡ n
 none_there n h = omega arith
-
--- what an encoder answers for lawful operands
-pub no_fault : {A E : Type 0} (f : Option E) (w : A) (r : Result A E) (e : E) → f ≡ None → r ≡ outcome f w → r ≡ Err e → ⊥
-no_fault f w r e n o t = let z : ◌≡◌ {A = ℕ} 0 1 = cc (ap (λ x. outcome x w) n) in omega arith
-
-pub its_word : {A E : Type 0} (f : Option E) (w : A) (r : Result A E) (v : A) → f ≡ None → r ≡ outcome f w → r ≡ Ok v → v ≡ w
-its_word f w r v n o t = cc (ap (λ x. outcome x w) n)

@@ -1,3 +1,4 @@
 pub mod Sound
 pub mod Reading
 pub mod Codes
+pub mod Made

@@ -1,5 +1,5 @@
 -- The reading law of a format, from its other laws and the layout theorem.
-use Rattle.std.proofs.Common.{◌≡◌, ℕ, Bool, true, false, Some, None, Option, ap, ◌∙◌, subst, arith, MatchOption}
+use Rattle.std.proofs.Common.{◌≡◌, ℕ, Bool, true, false, Some, None, Option, ap, ◌∙◌, arith, MatchOption}
 use Rattle.bits.specs.declared.part.Values.{Values}
 use Rattle.bits.specs.Layout.{word, picks, Fit}
 use Rattle.bits.proofs.Layouts.{picks_only}
@@ -11,21 +11,12 @@ use Rattle.formats.proofs.Sound.{layout_sound}
 pub none_some : {X : Type 0} (P : Type 0) (x : X) → ◌≡◌ {A = Option X} None (Some x) → P
 none_some P x e = absurd (let z : ◌≡◌ {A = ℕ} 0 1 = cc in omega arith)
 
-pub some_one : {X : Type 0} (x y : X) → ◌≡◌ {A = Option X} (Some x) (Some y) → x ≡ y
-some_one x y e = cc
-
 clash : (P : Type 0) (b : Bool) → b ≡ true → b ≡ false → P
 clash P b t f = absurd (let z : ◌≡◌ {A = ℕ} 0 1 = cc in omega arith)
 
 module _ (O : Type 0) (fault : O → Option WideCode) (values : O → Values) (allows : Values → Bool) (k : Kind) (w : ℕ) (v : Values) (is : v ≡ picks (layout k) w) (joined : word (layout k) v ≡ w) where
   abbrev Made : Option O → Type 0
   Made r = MatchOption r (allows v ≡ false) (λ o. (fault o ≡ None) × (values o ≡ v))
-
-  pub forth : (r : Option O) → Made r → (o : O) → r ≡ Some o → (fault o ≡ None) × (word (layout k) (values o) ≡ w)
-  forth None h o e = none_some ((fault o ≡ None) × (word (layout k) (values o) ≡ w)) o e
-  forth (Some p) h o e =
-      let q : p ≡ o = cc in
-      subst (λ x. (fault x ≡ None) × (word (layout k) (values x) ≡ w)) q (h.0, ap (word (layout k)) h.1 ∙ joined)
 
   -- the fields of lawful operands with this word are those that were picked
   found : (o : O) → Fit (layout k) (values o) → word (layout k) (values o) ≡ w → v ≡ values o

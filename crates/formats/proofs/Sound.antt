@@ -3,7 +3,7 @@ use Rattle.std.proofs.Common.{◌≡◌, ◌^◌, ◌<◌, true, List, refl}
 use Rattle.bits.specs.declared.part.Field.TheVariants.{D, A, B, N, M, Opcode, Funct3, Funct}
 use Rattle.bits.specs.declared.part.Part.{Part}
 use Rattle.bits.specs.declared.part.Values.{Values}
-use Rattle.bits.specs.Layout.{span, sound, handies, Fit}
+use Rattle.bits.specs.Layout.{span, sound, Fit}
 use Rattle.formats.specs.declared.kind.Kind.{Kind}
 use Rattle.formats.specs.declared.kind.Kind.TheVariants as kind
 use Rattle.formats.specs.Layouts.{layout}
@@ -35,34 +35,6 @@ layout_sound kind.CsWord = refl
 layout_sound kind.CsDouble = refl
 layout_sound kind.ClWord = refl
 layout_sound kind.ClDouble = refl
-
-pub layout_handy : (k : Kind) → handies (layout k) ≡ true
-layout_handy kind.R = refl
-layout_handy kind.I = refl
-layout_handy kind.S = refl
-layout_handy kind.U = refl
-layout_handy kind.B = refl
-layout_handy kind.J = refl
-layout_handy kind.V = refl
-layout_handy kind.VImm = refl
-layout_handy kind.VMem = refl
-layout_handy kind.Cr = refl
-layout_handy kind.Cr2 = refl
-layout_handy kind.CrBare = refl
-layout_handy kind.Ca = refl
-layout_handy kind.Cj = refl
-layout_handy kind.Ci = refl
-layout_handy kind.CiLwsp = refl
-layout_handy kind.CiLdsp = refl
-layout_handy kind.CiAddi16sp = refl
-layout_handy kind.Ciw = refl
-layout_handy kind.Cb = refl
-layout_handy kind.CssWord = refl
-layout_handy kind.CssDouble = refl
-layout_handy kind.CsWord = refl
-layout_handy kind.CsDouble = refl
-layout_handy kind.ClWord = refl
-layout_handy kind.ClDouble = refl
 
 pub fit_of : (s : List Part) (v : Values) → v.d < 2 ^ span s D → v.a < 2 ^ span s A → v.b < 2 ^ span s B → v.n < 2 ^ span s N → v.m < 2 ^ span s M → v.opcode < 2 ^ span s Opcode → v.funct3 < 2 ^ span s Funct3 → v.funct < 2 ^ span s Funct → Fit s v
 fit_of s v hd ha hb hn hm ho h3 hf D = hd

@@ -1,3 +1,4 @@
 pub mod Layouts
 pub mod Lawful
 pub mod Reaching
+pub mod Codes

@@ -14,21 +14,14 @@ pub fn word_by<F: Format>(v: &Values) -> u32
     requires allowed { F.allows v.now ≡ true }
     ensures { result ≡ word (layout F.kind) v.now }
 {
-    match F::make(v) {
-        Some(o) => match F::encode(&o) {
-            Ok(w) => w,
-            Err(_) => unreachable(),
-        },
-        None => unreachable(),
-    }
+    let o = F::make(v).unwrap();
+    F::encode(&o).unwrap()
 }
 
 // The fields of a word of the format: none where no lawful operands have that word.
 pub fn values_by<F: Format>(w: u32) -> Option<Values>
     ensures { MatchOption result ((v : Values) → Fit (layout F.kind) v → F.allows v ≡ true → word (layout F.kind) v ≢ w) (λ v. Fit (layout F.kind) v × (word (layout F.kind) v ≡ w)) }
 {
-    match F::read(w) {
-        Some(o) => Some(F::split(&o)),
-        None => None,
-    }
+    let o = F::read(w)?;
+    Some(F::split(&o))
 }

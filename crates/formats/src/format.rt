@@ -9,10 +9,8 @@ ghost use Rattle.formats.specs.Layouts.{layout, size};
 ghost use Rattle.formats.specs.Lawful.{outcome, Fits};
 
 use crate::faults::WideCode;
-use crate::kind::Kind;
-use crate::layouts::layout_of;
+use bits::layout::Layout;
 use bits::part::Values;
-use bits::walk::{join, picked};
 
 pub trait Format {
     type Operands: Copy;
@@ -28,16 +26,13 @@ pub trait Format {
     // which fields some lawful operands have
     ghost allows: { Values → Bool };
 
-    fn kind_of() -> Kind
-        ensures { result ≡ kind };
+    // the parts of its words
+    fn layout() -> Layout<'static>
+        ensures { result.parts.now ≡ layout kind };
 
-    // how many halfwords its words have
-    fn halfwords() -> usize
-        ensures { result ≡ size kind };
-
-    // the word of the operands
-    fn encode(o: &Self::Operands) -> Result<u32, WideCode>
-        ensures { result ≡ outcome (fault o.now) (word (layout kind) (values o.now)) };
+    // whether the operands are lawful, and else why not
+    fn check(o: &Self::Operands) -> Result<(), WideCode>
+        ensures { result ≡ outcome (fault o.now) tt };
 
     // the fields of the operands, and back
     fn split(o: &Self::Operands) -> Values
@@ -47,14 +42,29 @@ pub trait Format {
         requires { Fits kind v.now }
         ensures { MatchOption result (allows v.now ≡ false) (λ o. (fault o ≡ None) × (values o ≡ v.now)) };
 
+    // how many halfwords its words have
+    fn halfwords() -> usize
+        ensures { result ≡ size kind }
+    {
+        Self::layout().width() as usize / 16
+    }
+
+    // the word of the operands
+    fn encode(o: &Self::Operands) -> Result<u32, WideCode>
+        ensures { result ≡ outcome (fault o.now) (word (layout kind) (values o.now)) }
+    {
+        Self::check(o)?;
+        Ok(Self::layout().join(&Self::split(o)))
+    }
+
     // the reading of a word: a word reads as lawful operands exactly when it is their word
     fn read(w: u32) -> Option<Self::Operands>
         ensures forth { (o : Self.Operands) → result ≡ Some o → (fault o ≡ None) × (word (layout kind) (values o) ≡ w) }
         ensures back { (o : Self.Operands) → fault o ≡ None → word (layout kind) (values o) ≡ w → result ≡ Some o }
     {
-        let parts = layout_of(Self::kind_of());
-        let v = picked(parts, w);
-        if join(parts, &v) != w {
+        let layout = Self::layout();
+        let v = layout.picked(w);
+        if layout.join(&v) != w {
             return None;
         }
         Self::make(&v)

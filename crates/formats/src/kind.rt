@@ -1,5 +1,5 @@
 // The formats, by name.
-#[derive(Clone, Copy, Debug)]
+#[derive(Clone, Copy, PartialEq, Eq, Debug)]
 pub enum Kind {
     R,
     I,

@@ -1,4 +1,5 @@
 // Formats that have a distance in them.
+// Stays: each format states its least and greatest distance, so that the numbers stand as the manual has them.
 ghost use Rattle.std.specs.Prelude.{◌≡◌, ℕ, ℤ, Some, None, MatchOption};
 ghost use Rattle.bits.specs.Layout.{word};
 ghost use Rattle.operands.specs.Ranges.{InReach};
@@ -43,10 +44,7 @@ fn word_at<F: Reaching>(o: &F::Operands, d: i64) -> Option<u32>
     ensures { MatchOption result (InReach F.Reaching.least F.Reaching.greatest d → ⊥) (λ x. InReach F.Reaching.least F.Reaching.greatest d × (x ≡ word (layout F.Format.kind) (with_n (F.Format.values o.now) (F.Reaching.aim d)))) }
 {
     let p = F::aimed(o, d)?;
-    match F::encode(&p) {
-        Ok(v) => Some(v),
-        Err(_) => unreachable(),
-    }
+    F::encode(&p).ok()
 }
 
 // The word `w` at the distance `d`: none where `w` is no word of the format, or `d` is odd or out of reach.

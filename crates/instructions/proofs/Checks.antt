@@ -5,6 +5,9 @@ use Rattle.instructions.specs.declared.fields.Fields.{Fields}
 use Rattle.instructions.specs.declared.fields.BuildFault.{BuildFault}
 use Rattle.instructions.specs.Faults.{Check, check, first, unused_checks, range_checks, rule_checks, overlap_checks, or_else, fault, is_none, lawful}
 
+pub no : (P : Type 0) → false ≡ true → P
+no P t = absurd (let z : ◌≡◌ {A = ℕ} 0 1 = cc in omega arith)
+
 pub andb : (b c : Bool) → (b && c) ≡ true → (b ≡ true) × (c ≡ true)
 andb true c t = (refl, t)
 andb false c t = grind (arith, t)

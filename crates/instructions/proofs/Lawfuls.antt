@@ -1,58 +1,51 @@
 -- Fields have no fault exactly when they are lawful.
-use Rattle.std.proofs.Common.{◌≡◌, ℕ, suc, Bool, true, false, not, ◌&&◌, ◌||◌, eqb, ◌⊎◌, ℤ, pos, negsuc, nat_abs, refl, ap, ap₂, inl, inr, arith}
+use Rattle.std.proofs.Common.{◌≡◌, ℕ, suc, Bool, true, false, not, ◌&&◌, ◌||◌, eqb, ◌⊎◌, Some, None, Option, ℤ, pos, negsuc, nat_abs, refl, ap, ap₂, inl, inr, arith}
+use Rattle.std.proofs.lemmas.Bool.{eqb-true, eq-eqb}
 use Rattle.std.proofs.lemmas.Bool.Decides.{nat_tests}
 use Rattle.operations.specs.declared.row.Except.TheVariants.{Nothing, Zero, ZeroAndTwo}
 use Rattle.operations.specs.declared.row.Allowed.{Allowed}
 use Rattle.operations.specs.declared.row.Allowed.TheVariants.{All, NonZero, GroupSize}
 use Rattle.operations.specs.declared.row.Use.{Use}
-use Rattle.operations.specs.declared.row.Use.TheVariants.{Absent, Full, Short}
+use Rattle.operations.specs.declared.row.Use.TheVariants.{Full, Short}
 use Rattle.operations.specs.declared.row.Number.{Number}
-use Rattle.operations.specs.declared.row.Number.TheVariants.{NoNumber, Signed, Unsigned}
+use Rattle.operations.specs.declared.row.Number.TheVariants.{Signed, Unsigned}
 use Rattle.operations.specs.declared.row.Masking.{Masking}
-use Rattle.operations.specs.declared.row.Masking.TheVariants.{NoMask, Free, Always, Never}
+use Rattle.operations.specs.declared.row.Masking.TheVariants.{Free, Always, Never}
 use Rattle.operations.specs.declared.row.Form.{Form}
+use Rattle.operations.specs.Permitted.{allows}
 use Rattle.instructions.specs.declared.fields.Fields.{Fields}
-use Rattle.instructions.specs.Faults.{idle, idle_number, idle_mask, reg_ok, number_ok, mask_ok, mask_rule, taken, allows, taken_number, vectored, unlike, unused_checks, range_checks, rule_checks, overlap_checks, or_else, is_none, lawful}
+use Rattle.instructions.specs.Faults.{idle, reg_ok, number_ok, mask_ok, mask_rule, taken, taken_number, vectored, unlike, unused_checks, range_checks, rule_checks, overlap_checks, or_else, is_none, lawful}
 use Rattle.instructions.specs.Laws.{InUse, InRange, InMask, Takes, Allows, TakesNumber, Lawful, LawfulExactly}
-use Rattle.instructions.proofs.Checks.{andb, and_true, none_of, unused_at, range_at, rule_at, overlap_at}
+use Rattle.instructions.proofs.Checks.{no, andb, and_true, none_of, unused_at, range_at, rule_at, overlap_at}
 
 zero_int : (z : ℤ) → eqb (nat_abs z) 0 ≡ true → z ≡ pos 0
 zero_int (pos n) t = ap pos (let e : n ≡ 0 = grind (arith, nat_tests) in e)
 zero_int (negsuc n) t = absurd (let e : suc n ≡ 0 = grind (arith, nat_tests) in omega arith)
 
-no : (P : Type 0) → false ≡ true → P
-no P t = absurd (let z : ◌≡◌ {A = ℕ} 0 1 = cc in omega arith)
+reg_in : (u : Option Use) (x : ℤ) → idle u x ≡ true → reg_ok u x ≡ true → InUse u x
+reg_in None x i t = zero_int x i
+reg_in (Some (Full c e)) (pos x) i t = grind (arith, nat_tests)
+reg_in (Some (Full c e)) (negsuc x) i t = no ⊥ t
+reg_in (Some (Short c)) (pos x) i t = (grind (arith, nat_tests), grind (arith, nat_tests))
+reg_in (Some (Short c)) (negsuc x) i t = no ⊥ t
 
-reg_in : (u : Use) (x : ℤ) → idle u x ≡ true → reg_ok u x ≡ true → InUse u x
-reg_in Absent x i t = zero_int x i
-reg_in (Full c e) (pos x) i t = grind (arith, nat_tests)
-reg_in (Full c e) (negsuc x) i t = no ⊥ t
-reg_in (Short c) (pos x) i t = (grind (arith, nat_tests), grind (arith, nat_tests))
-reg_in (Short c) (negsuc x) i t = no ⊥ t
+number_in : (u : Option Number) (n : ℤ) → idle u n ≡ true → number_ok u n ≡ true → InRange u n
+number_in None n i t = zero_int n i
+number_in (Some (Signed k v w)) (pos n) i t = (grind (arith, nat_tests), grind (arith, nat_tests))
+number_in (Some (Signed k v w)) (negsuc n) i t = (grind (arith, nat_tests), grind (arith, nat_tests))
+number_in (Some (Unsigned k v w)) (pos n) i t = (grind (arith, nat_tests), grind (arith, nat_tests))
+number_in (Some (Unsigned k v w)) (negsuc n) i t = no ⊥ t
 
-number_in : (u : Number) (n : ℤ) → idle_number u n ≡ true → number_ok u n ≡ true → InRange u n
-number_in NoNumber n i t = zero_int n i
-number_in (Signed k v w) (pos n) i t = (grind (arith, nat_tests), grind (arith, nat_tests))
-number_in (Signed k v w) (negsuc n) i t = (grind (arith, nat_tests), grind (arith, nat_tests))
-number_in (Unsigned k v w) (pos n) i t = (grind (arith, nat_tests), grind (arith, nat_tests))
-number_in (Unsigned k v w) (negsuc n) i t = no ⊥ t
-
-one_int : (m : ℤ) → mask_ok Always m ≡ true → eqb (nat_abs m) 1 ≡ true → m ≡ pos 1
+one_int : (m : ℤ) → mask_ok (Some Always) m ≡ true → eqb (nat_abs m) 1 ≡ true → m ≡ pos 1
 one_int (pos m) t r = ap pos (let e : m ≡ 1 = grind (arith, nat_tests) in e)
 one_int (negsuc m) t r = no (negsuc m ≡ pos 1) t
 
-mask_in : (u : Masking) (m : ℤ) → idle_mask u m ≡ true → mask_ok u m ≡ true → mask_rule u m ≡ true → InMask u m
-mask_in NoMask m i t r = zero_int m i
-mask_in Free (pos m) i t r = grind (arith, nat_tests)
-mask_in Free (negsuc m) i t r = no ⊥ t
-mask_in Always m i t r = one_int m t r
-mask_in Never m i t r = zero_int m r
-
-is : (a b : ℕ) → eqb a b ≡ true → a ≡ b
-is a b t = grind (arith, nat_tests)
-
-eqb_true : (a b : ℕ) → a ≡ b → eqb a b ≡ true
-eqb_true a b e = grind (arith, nat_tests)
+mask_in : (u : Option Masking) (m : ℤ) → idle u m ≡ true → mask_ok u m ≡ true → mask_rule u m ≡ true → InMask u m
+mask_in None m i t r = zero_int m i
+mask_in (Some Free) (pos m) i t r = grind (arith, nat_tests)
+mask_in (Some Free) (negsuc m) i t r = no ⊥ t
+mask_in (Some Always) m i t r = one_int m t r
+mask_in (Some Never) m i t r = zero_int m r
 
 no_zero : (x : ℤ) (k : ℕ) → not (eqb (nat_abs x) k) ≡ true → x ≡ pos k → ⊥
 no_zero x k t e =
@@ -60,22 +53,22 @@ no_zero x k t e =
     let q : ◌≡◌ {A = ℕ} 0 1 = grind (arith, nat_tests) in
     omega arith
 
-takes : (u : Use) (x : ℤ) → taken u x ≡ true → Takes u x
-takes Absent x t = tt
-takes (Full c Nothing) x t = tt
-takes (Full c Zero) x t = no_zero x 0 t
-takes (Full c ZeroAndTwo) x t = let z = andb (not (eqb (nat_abs x) 0)) (not (eqb (nat_abs x) 2)) t in (no_zero x 0 z.0, no_zero x 2 z.1)
-takes (Short c) x t = tt
+takes : (u : Option Use) (x : ℤ) → taken u x ≡ true → Takes u x
+takes None x t = tt
+takes (Some (Full c Nothing)) x t = tt
+takes (Some (Full c Zero)) x t = no_zero x 0 t
+takes (Some (Full c ZeroAndTwo)) x t = let z = andb (not (eqb (nat_abs x) 0)) (not (eqb (nat_abs x) 2)) t in (no_zero x 0 z.0, no_zero x 2 z.1)
+takes (Some (Short c)) x t = tt
 
 -- one of four, by tests
 of_four : (n : ℕ) → (eqb n 0 || (eqb n 1 || (eqb n 3 || eqb n 7))) ≡ true → (n ≡ 0) ⊎ ((n ≡ 1) ⊎ ((n ≡ 3) ⊎ (n ≡ 7)))
 of_four n t = go (eqb n 0) refl (eqb n 1) refl (eqb n 3) refl t
   where
     go : (a : Bool) → eqb n 0 ≡ a → (b : Bool) → eqb n 1 ≡ b → (c : Bool) → eqb n 3 ≡ c → (a || (b || (c || eqb n 7))) ≡ true → (n ≡ 0) ⊎ ((n ≡ 1) ⊎ ((n ≡ 3) ⊎ (n ≡ 7)))
-    go true ea b eb c ec t = inl (is n 0 ea)
-    go false ea true eb c ec t = inr (inl (is n 1 eb))
-    go false ea false eb true ec t = inr (inr (inl (is n 3 ec)))
-    go false ea false eb false ec t = inr (inr (inr (is n 7 t)))
+    go true ea b eb c ec t = inl (eqb-true n 0 ea)
+    go false ea true eb c ec t = inr (inl (eqb-true n 1 eb))
+    go false ea false eb true ec t = inr (inr (inl (eqb-true n 3 ec)))
+    go false ea false eb false ec t = inr (inr (inr (eqb-true n 7 t)))
 
 four_pos : (n : ℕ) → (n ≡ 0) ⊎ ((n ≡ 1) ⊎ ((n ≡ 3) ⊎ (n ≡ 7))) → Allows GroupSize (pos n)
 four_pos n (inl e) = inl (ap pos e)
@@ -89,10 +82,10 @@ takes_allowed NonZero n t = no_zero n 0 t
 takes_allowed GroupSize (pos n) t = four_pos n (of_four n t)
 takes_allowed GroupSize (negsuc n) t = no (Allows GroupSize (negsuc n)) t
 
-takes_number : (u : Number) (n : ℤ) → taken_number u n ≡ true → TakesNumber u n
-takes_number NoNumber n t = tt
-takes_number (Signed k v w) n t = takes_allowed w n t
-takes_number (Unsigned k v w) n t = takes_allowed w n t
+takes_number : (u : Option Number) (n : ℤ) → taken_number u n ≡ true → TakesNumber u n
+takes_number None n t = tt
+takes_number (Some (Signed k v w)) n t = takes_allowed w n t
+takes_number (Some (Unsigned k v w)) n t = takes_allowed w n t
 
 never : (b : Bool) (x : ℤ) (y : ℕ) → unlike b x y ≡ true → b ≡ true → nat_abs x ≡ y → ⊥
 never true x y u t e = let q : ◌≡◌ {A = ℕ} 0 1 = grind (arith, nat_tests) in omega arith
@@ -116,63 +109,59 @@ forth r f t =
       n_takes = takes_number r.n f.n (ru 3);
       d_not_b = never r.forbids.sources f.d (nat_abs f.b) (ov 0);
       d_not_a = λ p q. never (r.forbids.sources && vectored r.a) f.d (nat_abs f.a) (ov 1) (and_true r.forbids.sources (vectored r.a) p q);
-      d_not_v0 = λ p q. never (r.forbids.mask && eqb (nat_abs f.m) 1) f.d 0 (ov 2) (and_true r.forbids.mask (eqb (nat_abs f.m) 1) p (eqb_true (nat_abs f.m) 1 q));
+      d_not_v0 = λ p q. never (r.forbids.mask && eqb (nat_abs f.m) 1) f.d 0 (ov 2) (and_true r.forbids.mask (eqb (nat_abs f.m) 1) p (eq-eqb (nat_abs f.m) 1 q));
     }
 
-idle_of : (u : Use) (x : ℤ) → InUse u x → idle u x ≡ true
-idle_of Absent x h = ap (λ z. eqb (nat_abs z) 0) h
-idle_of (Full c e) x h = refl
-idle_of (Short c) x h = refl
+idle_of : (u : Option Use) (x : ℤ) → InUse u x → idle u x ≡ true
+idle_of None x h = ap (λ z. eqb (nat_abs z) 0) h
+idle_of (Some u) x h = refl
 
-reg_of : (u : Use) (x : ℤ) → InUse u x → reg_ok u x ≡ true
-reg_of Absent x h = refl
-reg_of (Full c e) (pos x) h = grind (arith, nat_tests)
-reg_of (Full c e) (negsuc x) h = absurd h
-reg_of (Short c) (pos x) h = grind (arith, nat_tests)
-reg_of (Short c) (negsuc x) h = absurd h
+reg_of : (u : Option Use) (x : ℤ) → InUse u x → reg_ok u x ≡ true
+reg_of None x h = refl
+reg_of (Some (Full c e)) (pos x) h = grind (arith, nat_tests)
+reg_of (Some (Full c e)) (negsuc x) h = absurd h
+reg_of (Some (Short c)) (pos x) h = grind (arith, nat_tests)
+reg_of (Some (Short c)) (negsuc x) h = absurd h
 
-idle_number_of : (u : Number) (n : ℤ) → InRange u n → idle_number u n ≡ true
-idle_number_of NoNumber n h = ap (λ z. eqb (nat_abs z) 0) h
-idle_number_of (Signed k v w) n h = refl
-idle_number_of (Unsigned k v w) n h = refl
+idle_number_of : (u : Option Number) (n : ℤ) → InRange u n → idle u n ≡ true
+idle_number_of None n h = ap (λ z. eqb (nat_abs z) 0) h
+idle_number_of (Some u) n h = refl
 
-number_of : (u : Number) (n : ℤ) → InRange u n → number_ok u n ≡ true
-number_of NoNumber n h = refl
-number_of (Signed k v w) (pos n) h = grind (arith, nat_tests)
-number_of (Signed k v w) (negsuc n) h = grind (arith, nat_tests)
-number_of (Unsigned k v w) (pos n) h = grind (arith, nat_tests)
-number_of (Unsigned k v w) (negsuc n) h = absurd h
+number_of : (u : Option Number) (n : ℤ) → InRange u n → number_ok u n ≡ true
+number_of None n h = refl
+number_of (Some (Signed k v w)) (pos n) h = grind (arith, nat_tests)
+number_of (Some (Signed k v w)) (negsuc n) h = grind (arith, nat_tests)
+number_of (Some (Unsigned k v w)) (pos n) h = grind (arith, nat_tests)
+number_of (Some (Unsigned k v w)) (negsuc n) h = absurd h
 
-idle_mask_of : (u : Masking) (m : ℤ) → InMask u m → idle_mask u m ≡ true
-idle_mask_of NoMask m h = ap (λ z. eqb (nat_abs z) 0) h
-idle_mask_of Free m h = refl
-idle_mask_of Always m h = refl
-idle_mask_of Never m h = refl
+idle_mask_of : (u : Option Masking) (m : ℤ) → InMask u m → idle u m ≡ true
+idle_mask_of None m h = ap (λ z. eqb (nat_abs z) 0) h
+idle_mask_of (Some u) m h = refl
 
-mask_of : (u : Masking) (m : ℤ) → InMask u m → mask_ok u m ≡ true
-mask_of NoMask m h = refl
-mask_of Free (pos m) h = grind (arith, nat_tests)
-mask_of Free (negsuc m) h = absurd h
-mask_of Always m h = ap (mask_ok Always) h
-mask_of Never m h = ap (mask_ok Never) h
+mask_of : (u : Option Masking) (m : ℤ) → InMask u m → mask_ok u m ≡ true
+mask_of None m h = refl
+mask_of (Some Free) (pos m) h = grind (arith, nat_tests)
+mask_of (Some Free) (negsuc m) h = absurd h
+mask_of (Some Always) m h = ap (mask_ok (Some Always)) h
+mask_of (Some Never) m h = ap (mask_ok (Some Never)) h
 
-rule_of : (u : Masking) (m : ℤ) → InMask u m → mask_rule u m ≡ true
-rule_of NoMask m h = refl
-rule_of Free m h = refl
-rule_of Always m h = ap (mask_rule Always) h
-rule_of Never m h = ap (mask_rule Never) h
+rule_of : (u : Option Masking) (m : ℤ) → InMask u m → mask_rule u m ≡ true
+rule_of None m h = refl
+rule_of (Some Free) m h = refl
+rule_of (Some Always) m h = ap (mask_rule (Some Always)) h
+rule_of (Some Never) m h = ap (mask_rule (Some Never)) h
 
 not_is : (a b : ℕ) → (a ≡ b → ⊥) → not (eqb a b) ≡ true
 not_is a b h = grind (arith, nat_tests)
 
-taken_of : (u : Use) (x : ℤ) → InUse u x → Takes u x → taken u x ≡ true
-taken_of Absent x i h = refl
-taken_of (Full c Nothing) x i h = refl
-taken_of (Full c Zero) (pos x) i h = not_is x 0 (λ e. h (ap pos e))
-taken_of (Full c Zero) (negsuc x) i h = absurd i
-taken_of (Full c ZeroAndTwo) (pos x) i h = and_true _ _ (not_is x 0 (λ e. h.0 (ap pos e))) (not_is x 2 (λ e. h.1 (ap pos e)))
-taken_of (Full c ZeroAndTwo) (negsuc x) i h = absurd i
-taken_of (Short c) x i h = refl
+taken_of : (u : Option Use) (x : ℤ) → InUse u x → Takes u x → taken u x ≡ true
+taken_of None x i h = refl
+taken_of (Some (Full c Nothing)) x i h = refl
+taken_of (Some (Full c Zero)) (pos x) i h = not_is x 0 (λ e. h (ap pos e))
+taken_of (Some (Full c Zero)) (negsuc x) i h = absurd i
+taken_of (Some (Full c ZeroAndTwo)) (pos x) i h = and_true _ _ (not_is x 0 (λ e. h.0 (ap pos e))) (not_is x 2 (λ e. h.1 (ap pos e)))
+taken_of (Some (Full c ZeroAndTwo)) (negsuc x) i h = absurd i
+taken_of (Some (Short c)) x i h = refl
 
 group_of : (n : ℤ) → Allows GroupSize n → allows GroupSize n ≡ true
 group_of n (inl e) = ap (allows GroupSize) e
@@ -186,10 +175,10 @@ allowed_of NonZero (pos n) h = not_is n 0 (λ e. h (ap pos e))
 allowed_of NonZero (negsuc n) h = not_is (suc n) 0 (λ e. omega arith)
 allowed_of GroupSize n h = group_of n h
 
-taken_number_of : (u : Number) (n : ℤ) → TakesNumber u n → taken_number u n ≡ true
-taken_number_of NoNumber n h = refl
-taken_number_of (Signed k v w) n h = allowed_of w n h
-taken_number_of (Unsigned k v w) n h = allowed_of w n h
+taken_number_of : (u : Option Number) (n : ℤ) → TakesNumber u n → taken_number u n ≡ true
+taken_number_of None n h = refl
+taken_number_of (Some (Signed k v w)) n h = allowed_of w n h
+taken_number_of (Some (Unsigned k v w)) n h = allowed_of w n h
 
 unlike_of : (b : Bool) (x : ℤ) (y : ℕ) → (b ≡ true → nat_abs x ≡ y → ⊥) → unlike b x y ≡ true
 unlike_of true x y h = not_is (nat_abs x) y (h refl)
@@ -219,7 +208,7 @@ back r f l =
     let v = none_of (overlap_checks r f)
     (and_true _ _ (unlike_of s f.d (nat_abs f.b) l.d_not_b)
     (and_true _ _ (unlike_of (s && vectored r.a) f.d (nat_abs f.a) (λ t. let z = andb s (vectored r.a) t in l.d_not_a z.0 z.1))
-    (and_true _ _ (unlike_of (r.forbids.mask && eqb (nat_abs f.m) 1) f.d 0 (λ t. let z = andb r.forbids.mask (eqb (nat_abs f.m) 1) t in l.d_not_v0 z.0 (is (nat_abs f.m) 1 z.1))) refl))) in
+    (and_true _ _ (unlike_of (r.forbids.mask && eqb (nat_abs f.m) 1) f.d 0 (λ t. let z = andb r.forbids.mask (eqb (nat_abs f.m) 1) t in l.d_not_v0 z.0 (eqb-true (nat_abs f.m) 1 z.1))) refl))) in
     ap is_none (ap₂ or_else u (ap₂ or_else o (ap₂ or_else w v)))
 
 pub lawful_exactly : LawfulExactly

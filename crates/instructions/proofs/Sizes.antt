@@ -1,6 +1,7 @@
 -- The low two bits of a word are its operation's, and tell its size.
 use Rattle.std.proofs.Common.{◌≡◌, ℕ, ◌+◌, ◌*◌, ◌/◌, ◌%◌, ◌^◌, ◌<◌, Bool, true, false, cond, eqb, List, [], ◌∷◌, get_or, sym, refl, ap, ◌∙◌, subst, ap₂, mod-lt, mod-eq_of_lt, arith, pow_pos}
 use lib.Bits.{bit_and, and_mod, and_mask}
+use Rattle.std.proofs.lemmas.Bool.{eqb-true}
 use Rattle.std.proofs.lemmas.Bool.Decides.{nat_tests}
 use Rattle.bits.specs.declared.part.Field.{Field}
 use Rattle.bits.specs.declared.part.Field.TheVariants.{D, A, B, N, M, Opcode, Funct3, Funct}
@@ -17,7 +18,7 @@ use Rattle.instructions.specs.declared.fields.Fields.{Fields}
 use Rattle.instructions.specs.declared.instruction.Instruction.{Instruction}
 use Rattle.instructions.specs.Words.{raw, the_word, halves, halfwords_in}
 use Rattle.instructions.specs.Laws.{LowBitsTell}
-use Rattle.instructions.proofs.Checks.{all, test, every, every_at}
+use Rattle.instructions.proofs.Checks.{no, all, test, every, every_at}
 
 cond_same : (b : Bool) (x y : ℕ) → (b ≡ true → x ≡ y) → cond b x 0 ≡ cond b y 0
 cond_same true x y h = h refl
@@ -35,15 +36,12 @@ bits_same (Slice f l w ∷ s) v u h =
 abbrev pub codes : Form → Values
 codes r = record { d = 0; a = 0; b = 0; n = 0; m = 0; opcode = r.opcode; funct3 = r.funct3; funct = r.funct }
 
-no_code : (P : Type 0) → false ≡ true → P
-no_code P t = absurd (let z : ◌≡◌ {A = ℕ} 0 1 = cc in omega arith)
-
 same_codes : (r : Form) (f : Fields) (g : Field) → code g ≡ true → value_at g (raw r f) ≡ value_at g (codes r)
-same_codes r f D t = no_code _ t
-same_codes r f A t = no_code _ t
-same_codes r f B t = no_code _ t
-same_codes r f N t = no_code _ t
-same_codes r f M t = no_code _ t
+same_codes r f D t = no _ t
+same_codes r f A t = no _ t
+same_codes r f B t = no _ t
+same_codes r f N t = no _ t
+same_codes r f M t = no _ t
 same_codes r f Opcode t = refl
 same_codes r f Funct3 t = refl
 same_codes r f Funct t = refl
@@ -68,9 +66,6 @@ all_told : every (λ (e : Entry). all (told e.form)) operations ≡ true
 unfolding operations
 all_told = refl
 
-equal : (a b : ℕ) → eqb a b ≡ true → a ≡ b
-equal a b t = grind (arith, nat_tests)
-
 told_at : (k : ℕ) → k < count → (j : ℕ) → get_or (told (form_at k)) j true ≡ true
 told_at k h = test (told (form_at k)) (every_at (λ (e : Entry). all (told e.form)) operations no_entry all_told k (subst (λ (n : ℕ). k < n) (sym operations_length) h))
 
@@ -78,32 +73,23 @@ pub low_bits_tell : LowBitsTell
 low_bits_tell k f h =
     let r = form_at k in
     let s = layout r.kind in
-    equal (size r.kind) (cond (eqb (bits s (codes r) % 4) 3) 2 1) (told_at k h 1)
-    ∙ sym (ap (λ x. cond (eqb x 3) 2 1) (low s (raw r f) (equal (mask s % 4) 3 (told_at k h 0)) ∙ ap (λ x. x % 4) (raw_bits r f)))
+    eqb-true (size r.kind) (cond (eqb (bits s (codes r) % 4) 3) 2 1) (told_at k h 1)
+    ∙ sym (ap (λ x. cond (eqb x 3) 2 1) (low s (raw r f) (eqb-true (mask s % 4) 3 (told_at k h 0)) ∙ ap (λ x. x % 4) (raw_bits r f)))
 
 -- ---- an instruction's halfwords
-
-told_two : (i : Instruction) (x : ℕ) → x ≡ the_word i → x % 4 ≡ 3 → size (form_at i.op.place).kind ≡ 2
-told_two i x e t =
-    let b : eqb (x % 4) 3 ≡ true = grind (arith, nat_tests) in
-    low_bits_tell i.op.place i.fields i.op.real ∙ ap (λ w. cond (eqb (w % 4) 3) 2 1) (sym e) ∙ ap (λ b. cond b 2 1) b
 
 told_one : (i : Instruction) (x : ℕ) → x ≡ the_word i → (x % 4 ≡ 3 → ⊥) → size (form_at i.op.place).kind ≡ 1
 told_one i x e n =
     let b : eqb (x % 4) 3 ≡ false = grind (arith, nat_tests) in
     low_bits_tell i.op.place i.fields i.op.real ∙ ap (λ w. cond (eqb (w % 4) 3) 2 1) (sym e) ∙ ap (λ b. cond b 2 1) b
 
-pub two_halves : (i : Instruction) (x : ℕ) → x ≡ the_word i → x % 4 ≡ 3 → bit_and x 65535 ∷ x / 65536 ∷ [] ≡ halfwords_in i
-two_halves i x e t =
-    ap₂ (λ (a b : ℕ). a ∷ b ∷ []) (and_mask x 16 ∙ ap (λ (y : ℕ). y % 65536) e) (ap (λ (y : ℕ). y / 65536) e)
-    ∙ ap (λ n. halves n (the_word i)) (sym (told_two i x e t))
-
-pub one_half : (i : Instruction) (x : ℕ) → x ≡ the_word i → (x % 4 ≡ 3 → ⊥) → x ∷ [] ≡ halfwords_in i
-one_half i x e n = ap (λ (a : ℕ). a ∷ []) e ∙ ap (λ n. halves n (the_word i)) (sym (told_one i x e n))
+pub by_word : (i : Instruction) (x : ℕ) → x ≡ the_word i → halfwords_in i ≡ halves (cond (eqb (x % 4) 3) 2 1) x
+by_word i x e =
+    ap (λ n. halves n (the_word i)) (low_bits_tell i.op.place i.fields i.op.real) ∙ ap (λ x. halves (cond (eqb (x % 4) 3) 2 1) x) (sym e)
 
 -- a word of one halfword is below 65536
 pub one_small : (i : Instruction) (x : ℕ) → x ≡ the_word i → (x % 4 ≡ 3 → ⊥) → x < 65536
 one_small i x e n =
     let k = (form_at i.op.place).kind in
-    let s = equal (total (layout k)) (16 * size k) (told_at i.op.place i.op.real 2) ∙ ap (λ m. 16 * m) (told_one i x e n) in
+    let s = eqb-true (total (layout k)) (16 * size k) (told_at i.op.place i.op.real 2) ∙ ap (λ m. 16 * m) (told_one i x e n) in
     subst (λ m. x < 2 ^ m) s (subst (λ w. w < 2 ^ total (layout k)) (sym e) (word_lt (layout k) (raw (form_at i.op.place) i.fields)))

@@ -1,20 +1,19 @@
 -- The first fault of an operation's fields, in the order of refusal. Laws.antt says in plain terms which fields have none.
-use Rattle.std.specs.Prelude.{ℕ, suc, ◌-◌, ◌/◌, ◌%◌, ◌^◌, ◌<◌, ◌≤◌, Bool, true, false, cond, not, ◌&&◌, ◌||◌, List, [], ◌∷◌, ℤ, pos, negsuc, Some, None, Option, ◌==◌, nat_le, nat_lt, unsigned_abs}
+use Rattle.std.specs.Prelude.{◌≡◌, ℕ, suc, ◌-◌, ◌/◌, ◌%◌, ◌^◌, ◌<◌, ◌≤◌, Bool, true, false, cond, not, ◌&&◌, List, [], ◌∷◌, ℤ, pos, negsuc, Some, None, Option, Ok, Err, Result, ◌==◌, nat_le, nat_lt, unsigned_abs}
+use Rattle.std.specs.Coded.{Unit-prop, le_prop}
 use Rattle.bits.specs.declared.part.Field.TheVariants.{D, A, N, M}
 use Rattle.bits.specs.declared.part.Field.TheVariants as field
 use Rattle.formats.specs.declared.kind.Kind.{Kind}
 use Rattle.formats.specs.declared.kind.Kind.TheVariants.{R, I, S, U, B, J, V, VImm, VMem, Cr, Cr2, CrBare, Ca, Cj, Ci, CiLwsp, CiLdsp, CiAddi16sp, Ciw, Cb, CssWord, CssDouble, CsWord, CsDouble, ClWord, ClDouble}
 use Rattle.operands.specs.declared.regs.Class.TheVariants.{Integer, Float, Vector}
-use Rattle.operations.specs.declared.row.Except.TheVariants.{Nothing, Zero, ZeroAndTwo}
-use Rattle.operations.specs.declared.row.Allowed.{Allowed}
-use Rattle.operations.specs.declared.row.Allowed.TheVariants.{All, NonZero, GroupSize}
 use Rattle.operations.specs.declared.row.Use.{Use}
-use Rattle.operations.specs.declared.row.Use.TheVariants.{Absent, Full, Short}
+use Rattle.operations.specs.declared.row.Use.TheVariants.{Full, Short}
 use Rattle.operations.specs.declared.row.Number.{Number}
-use Rattle.operations.specs.declared.row.Number.TheVariants.{NoNumber, Signed, Unsigned}
+use Rattle.operations.specs.declared.row.Number.TheVariants.{Signed, Unsigned}
 use Rattle.operations.specs.declared.row.Masking.{Masking}
-use Rattle.operations.specs.declared.row.Masking.TheVariants.{NoMask, Free, Always, Never}
+use Rattle.operations.specs.declared.row.Masking.TheVariants.{Free, Always, Never}
 use Rattle.operations.specs.declared.row.Form.{Form}
+use Rattle.operations.specs.Permitted.{permits, allows}
 use Rattle.instructions.specs.declared.fields.Fields.{Fields}
 use Rattle.instructions.specs.declared.fields.BuildFault.{BuildFault}
 use Rattle.instructions.specs.declared.fields.BuildFault.TheVariants.{Jump, Unused, Register, Constant, MaskBit, Forbidden, Masked, Overlap}
@@ -50,83 +49,61 @@ reaches ClDouble = false
 
 -- ---- a field that is not used is 0
 
-abbrev pub idle : Use → ℤ → Bool
-idle Absent x = unsigned_abs x == 0
-idle (Full c e) x = true
-idle (Short c) x = true
-
-abbrev pub idle_number : Number → ℤ → Bool
-idle_number NoNumber n = unsigned_abs n == 0
-idle_number (Signed k u w) n = true
-idle_number (Unsigned k u w) n = true
-
-abbrev pub idle_mask : Masking → ℤ → Bool
-idle_mask NoMask m = unsigned_abs m == 0
-idle_mask Free m = true
-idle_mask Always m = true
-idle_mask Never m = true
+abbrev pub idle : {A : Type 0} → Option A → ℤ → Bool
+idle None x = unsigned_abs x == 0
+idle (Some u) x = true
 
 -- ---- a field that is used is in its range
 
-abbrev pub reg_ok : Use → ℤ → Bool
-reg_ok Absent x = true
-reg_ok (Full c e) (pos x) = nat_lt x 32
-reg_ok (Full c e) (negsuc x) = false
-reg_ok (Short c) (pos x) = nat_le 8 x && nat_lt x 16
-reg_ok (Short c) (negsuc x) = false
+abbrev pub reg_ok : Option Use → ℤ → Bool
+reg_ok None x = true
+reg_ok (Some (Full c e)) (pos x) = nat_lt x 32
+reg_ok (Some (Full c e)) (negsuc x) = false
+reg_ok (Some (Short c)) (pos x) = nat_le 8 x && nat_lt x 16
+reg_ok (Some (Short c)) (negsuc x) = false
 
 -- a multiple of the unit u, of k bits in units
-abbrev pub number_ok : Number → ℤ → Bool
-number_ok NoNumber n = true
-number_ok (Signed k u w) (pos n) = n % u == 0 && nat_lt (n / u) (2 ^ (k - 1))
-number_ok (Signed k u w) (negsuc n) = suc n % u == 0 && nat_le (suc n / u) (2 ^ (k - 1))
-number_ok (Unsigned k u w) (pos n) = n % u == 0 && nat_lt (n / u) (2 ^ k)
-number_ok (Unsigned k u w) (negsuc n) = false
+abbrev pub number_ok : Option Number → ℤ → Bool
+number_ok None n = true
+number_ok (Some (Signed k u w)) (pos n) = n % u == 0 && nat_lt (n / u) (2 ^ (k - 1))
+number_ok (Some (Signed k u w)) (negsuc n) = suc n % u == 0 && nat_le (suc n / u) (2 ^ (k - 1))
+number_ok (Some (Unsigned k u w)) (pos n) = n % u == 0 && nat_lt (n / u) (2 ^ k)
+number_ok (Some (Unsigned k u w)) (negsuc n) = false
 
 -- 0 or 1
 abbrev bit : ℤ → Bool
 bit (pos m) = nat_lt m 2
 bit (negsuc m) = false
 
-abbrev pub mask_ok : Masking → ℤ → Bool
-mask_ok NoMask m = true
-mask_ok Free m = bit m
-mask_ok Always m = bit m
-mask_ok Never m = bit m
+abbrev pub mask_ok : Option Masking → ℤ → Bool
+mask_ok None m = true
+mask_ok (Some u) m = bit m
 
-abbrev pub mask_rule : Masking → ℤ → Bool
-mask_rule NoMask m = true
-mask_rule Free m = true
-mask_rule Always m = unsigned_abs m == 1
-mask_rule Never m = unsigned_abs m == 0
+abbrev pub mask_rule : Option Masking → ℤ → Bool
+mask_rule None m = true
+mask_rule (Some Free) m = true
+mask_rule (Some Always) m = unsigned_abs m == 1
+mask_rule (Some Never) m = unsigned_abs m == 0
 
 -- ---- a value of the range that the operation does not take there
 
-abbrev pub taken : Use → ℤ → Bool
-taken Absent x = true
-taken (Full c Nothing) x = true
-taken (Full c Zero) x = not (unsigned_abs x == 0)
-taken (Full c ZeroAndTwo) x = not (unsigned_abs x == 0) && not (unsigned_abs x == 2)
-taken (Short c) x = true
+abbrev pub taken : Option Use → ℤ → Bool
+taken None x = true
+taken (Some (Full c e)) x = permits e (unsigned_abs x)
+taken (Some (Short c)) x = true
 
-abbrev pub allows : Allowed → ℤ → Bool
-allows All n = true
-allows NonZero n = not (unsigned_abs n == 0)
-allows GroupSize (pos n) = n == 0 || (n == 1 || (n == 3 || n == 7))
-allows GroupSize (negsuc n) = false
-
-abbrev pub taken_number : Number → ℤ → Bool
-taken_number NoNumber n = true
-taken_number (Signed k u w) n = allows w n
-taken_number (Unsigned k u w) n = allows w n
+abbrev pub taken_number : Option Number → ℤ → Bool
+taken_number None n = true
+taken_number (Some (Signed k u w)) n = allows w n
+taken_number (Some (Unsigned k u w)) n = allows w n
 
 -- a vector register
-abbrev pub vectored : Use → Bool
-vectored Absent = false
-vectored (Full Integer e) = false
-vectored (Full Float e) = false
-vectored (Full Vector e) = true
-vectored (Short c) = false
+abbrev pub vectored : Option Use → Bool
+vectored None = false
+vectored (Some (Full Integer e)) = false
+vectored (Some (Full Float e)) = false
+vectored (Some (Full Vector e)) = true
+vectored (Some (Short c)) = false
 
 -- ---- the tests in order, each with its fault
 
@@ -142,8 +119,8 @@ unused_checks r f =
     check (idle r.d f.d) (Unused D f.d)
     ∷ check (idle r.a f.a) (Unused A f.a)
     ∷ check (idle r.b f.b) (Unused field.B f.b)
-    ∷ check (idle_number r.n f.n) (Unused N f.n)
-    ∷ check (idle_mask r.m f.m) (Unused M f.m)
+    ∷ check (idle r.n f.n) (Unused N f.n)
+    ∷ check (idle r.m f.m) (Unused M f.m)
     ∷ []
 
 abbrev pub range_checks : Form → Fields → List Check
@@ -184,6 +161,11 @@ or_else None o = o
 abbrev pub fault : Form → Fields → Option BuildFault
 fault r f = or_else (first (unused_checks r f)) (or_else (first (range_checks r f)) (or_else (first (rule_checks r f)) (first (overlap_checks r f))))
 
+-- what a check answers: the fault, if there is one
+abbrev pub Finds : Result (Unit {0}) BuildFault → Option BuildFault → Type 0
+Finds (Ok u) o = o ≡ None
+Finds (Err e) o = o ≡ Some e
+
 abbrev pub is_none : Option BuildFault → Bool
 is_none None = true
 is_none (Some e) = false
@@ -195,14 +177,23 @@ lawful r f = is_none (fault r f)
 abbrev pub build_fault : Form → Fields → Option BuildFault
 build_fault r f = cond (reaches r.kind) (Some Jump) (fault r f)
 
--- what the code asks of a constant's width and unit
+-- a constant's width and unit, as the code can handle them
 pub record SomeBits (k u : ℕ) : Type 0 where
   pub wide : 0 < k
   pub narrow : k < 32
   pub some : 0 < u
   pub small : u ≤ 16
 
-abbrev pub Workable : Number → Type 0
-Workable NoNumber = Unit {0}
-Workable (Signed k u w) = SomeBits k u
-Workable (Unsigned k u w) = SomeBits k u
+abbrev pub Workable : Option Number → Type 0
+Workable None = Unit {0}
+Workable (Some (Signed k u w)) = SomeBits k u
+Workable (Some (Unsigned k u w)) = SomeBits k u
+
+SomeBits-prop : (k u : ℕ) → IsProp (SomeBits k u)
+SomeBits-prop k u a b i = record { wide = le_prop a.wide b.wide i; narrow = le_prop a.narrow b.narrow i; some = le_prop a.some b.some i; small = le_prop a.small b.small i }
+
+-- there is one proof of it at most
+pub Workable-prop : (n : Option Number) → IsProp (Workable n)
+Workable-prop None = Unit-prop
+Workable-prop (Some (Signed k u w)) = SomeBits-prop k u
+Workable-prop (Some (Unsigned k u w)) = SomeBits-prop k u

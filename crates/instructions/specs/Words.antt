@@ -1,15 +1,14 @@
 -- What build answers, and an instruction's word.
-use Rattle.std.specs.Prelude.{ℕ, suc, ◌-◌, ◌/◌, ◌%◌, ◌^◌, cond, List, [], ◌∷◌, ℤ, pos, negsuc, Ok, Err, Result, ◌==◌, unsigned_abs}
+use Rattle.std.specs.Prelude.{ℕ, suc, ◌-◌, ◌/◌, ◌%◌, ◌^◌, cond, List, [], ◌∷◌, ℤ, pos, negsuc, Some, None, Option, Ok, Err, Result, ◌==◌, unsigned_abs}
 use Rattle.bits.specs.declared.part.Values.{Values}
 use Rattle.bits.specs.Layout.{word}
 use Rattle.formats.specs.Layouts.{layout, size}
 use Rattle.formats.specs.Lawful.{outcome}
 use Rattle.operations.specs.declared.row.Use.{Use}
-use Rattle.operations.specs.declared.row.Use.TheVariants.{Absent, Full, Short}
+use Rattle.operations.specs.declared.row.Use.TheVariants.{Full, Short}
 use Rattle.operations.specs.declared.row.Number.{Number}
-use Rattle.operations.specs.declared.row.Number.TheVariants.{NoNumber, Signed, Unsigned}
+use Rattle.operations.specs.declared.row.Number.TheVariants.{Signed, Unsigned}
 use Rattle.operations.specs.declared.row.Masking.{Masking}
-use Rattle.operations.specs.declared.row.Masking.TheVariants.{NoMask, Free, Always, Never}
 use Rattle.operations.specs.declared.row.Form.{Form}
 use Rattle.operations.specs.declared.operation.Operation.{Operation}
 use Rattle.operations.specs.Manual.{form_at}
@@ -31,24 +30,22 @@ built o f = outcome (build_fault (form_at o.place) f) (o, f)
 -- ---- the fields as they stand in the word
 
 -- a register's number; a short one less 8
-abbrev pub raw_reg : Use → ℤ → ℕ
-raw_reg Absent x = 0
-raw_reg (Full c e) x = unsigned_abs x
-raw_reg (Short c) x = unsigned_abs x - 8
+abbrev pub raw_reg : Option Use → ℤ → ℕ
+raw_reg None x = 0
+raw_reg (Some (Full c e)) x = unsigned_abs x
+raw_reg (Some (Short c)) x = unsigned_abs x - 8
 
 -- the constant in units, a signed one as its two's complement
-abbrev pub raw_number : Number → ℤ → ℕ
-raw_number NoNumber n = 0
-raw_number (Signed k u w) (pos n) = n / u
-raw_number (Signed k u w) (negsuc n) = 2 ^ k - suc n / u
-raw_number (Unsigned k u w) n = unsigned_abs n / u
+abbrev pub raw_number : Option Number → ℤ → ℕ
+raw_number None n = 0
+raw_number (Some (Signed k u w)) (pos n) = n / u
+raw_number (Some (Signed k u w)) (negsuc n) = 2 ^ k - suc n / u
+raw_number (Some (Unsigned k u w)) n = unsigned_abs n / u
 
 -- the bit is 0 when masked
-abbrev pub raw_mask : Masking → ℤ → ℕ
-raw_mask NoMask m = 0
-raw_mask Free m = 1 - unsigned_abs m
-raw_mask Always m = 1 - unsigned_abs m
-raw_mask Never m = 1 - unsigned_abs m
+abbrev pub raw_mask : Option Masking → ℤ → ℕ
+raw_mask None m = 0
+raw_mask (Some u) m = 1 - unsigned_abs m
 
 abbrev pub raw : Form → Fields → Values
 raw r f = record {

@@ -1,34 +1,43 @@
 // Building an instruction.
 ghost use Rattle.std.specs.Prelude.{◌≡◌};
+ghost use Rattle.std.specs.Result.{result_err};
+ghost use Rattle.formats.specs.Lawful.{outcome};
 ghost use Rattle.operations.specs.Manual.{form_at};
-ghost use Rattle.instructions.specs.Faults.{Workable};
+ghost use Rattle.instructions.specs.Faults.{fault};
 ghost use Rattle.instructions.specs.Words.{shown, built};
 
-use crate::faults::{fault_of, is_reaching};
+use crate::faults::check;
 use crate::fields::{BuildFault, Fields};
+use crate::form::KnownForm;
 use crate::instruction::Instruction;
 use operations::operation::Operation;
-use operations::row::Form;
 use operations::table::form_of;
 
 // The form of an operation, whose constant the code can handle.
-pub fn known_form(op: Operation) -> Form
-    ensures is { result ≡ form_at op.place }
-    ensures workable { Workable result.n }
+pub fn known_form(op: Operation) -> KnownForm
+    ensures is { result.form ≡ form_at op.place }
 {
-    form_of(op)
+    let form = form_of(op);
+    KnownForm { form }
 }
 
-// An instruction of the operation with these fields, or their first fault.
+impl Instruction {
+    // The instruction of the operation with these fields, or their first fault.
+    pub fn checked(op: Operation, fields: Fields) -> Result<Instruction, BuildFault>
+        ensures answer { shown result ≡ outcome (fault (form_at op.place) fields) (op, fields) }
+        ensures refusal { result_err result ≡ fault (form_at op.place) fields }
+    {
+        check(&known_form(op), &fields)?;
+        Ok(Instruction::of(op, fields))
+    }
+}
+
+// The same for what is no jump.
 pub fn build(op: Operation, fields: Fields) -> Result<Instruction, BuildFault>
     ensures { shown result ≡ built op fields }
 {
-    let form = known_form(op);
-    if is_reaching(form.kind) {
+    if known_form(op).is_jump() {
         return Err(BuildFault::Jump);
     }
-    match fault_of(&form, &fields) {
-        Some(e) => Err(e),
-        None => Ok(Instruction::of(op, fields)),
-    }
+    Instruction::checked(op, fields)
 }

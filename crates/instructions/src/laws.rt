@@ -2,15 +2,11 @@
 ghost use Rattle.instructions.specs.Laws.{LawfulExactly, LowBitsTell};
 
 // Fields have no fault exactly when they are lawful.
-pub fn fields_stand() -> u8
+pub fn fields_stand()
     ensures { LawfulExactly }
-{
-    0
-}
+{}
 
 // The low two bits of a word tell how many halfwords it has.
-pub fn sizes_stand() -> u8
+pub fn sizes_stand()
     ensures { LowBitsTell }
-{
-    0
-}
+{}

@@ -4,6 +4,7 @@
 pub mod build;
 pub mod faults;
 pub mod fields;
+pub mod form;
 pub mod instruction;
 pub mod laws;
 pub mod raws;

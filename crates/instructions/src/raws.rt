@@ -1,71 +1,68 @@
 // The fields as they stand in the word.
-ghost use Rattle.std.specs.Prelude.{◌≡◌, ◌^◌, ◌<◌, true};
-ghost use Rattle.instructions.specs.Faults.{reg_ok, mask_ok, number_ok, lawful, Workable};
+ghost use Rattle.std.specs.Prelude.{◌≡◌, true};
+ghost use Rattle.instructions.specs.Faults.{reg_ok, mask_ok, number_ok, lawful};
 ghost use Rattle.instructions.specs.Words.{raw_reg, raw_number, raw_mask, raw};
 
 use crate::fields::Fields;
+use crate::form::KnownForm;
 use bits::part::Values;
-use operations::row::{Form, Masking, Number, Use};
+use operations::row::{Masking, Number, Use};
 
-fn raw_reg(u: Use, x: i64) -> u32
+fn raw_reg(u: Option<Use>, x: i64) -> u32
     requires { reg_ok u x ≡ true }
     ensures { result ≡ raw_reg u x }
 {
     match u {
-        Use::Absent => 0,
-        Use::Full(_, _) => x.unsigned_abs() as u32,
-        Use::Short(_) => (x.unsigned_abs() - 8) as u32,
+        None => 0,
+        Some(Use::Full(_, _)) => x.unsigned_abs() as u32,
+        Some(Use::Short(_)) => (x.unsigned_abs() - 8) as u32,
     }
 }
 
-fn raw_number(u: Number, n: i64) -> u32
-    requires works { Workable u }
-    requires fits { number_ok u n ≡ true }
-    requires within { raw_number u n < 2 ^ 32 }
-    ensures { result ≡ raw_number u n }
+#[tactic(auto, using(crate::proofs::Constants::number_32))]
+fn raw_number(form: &KnownForm, n: i64) -> u32
+    requires { number_ok form.now.form.n n ≡ true }
+    ensures { result ≡ raw_number form.now.form.n n }
 {
     let size = n.unsigned_abs();
-    match u {
-        Number::NoNumber => 0,
-        Number::Signed(width, unit, _) => {
-            let count = size / unit as u64;
+    match form.form.n {
+        None => 0,
+        Some(Number::Signed { width, unit, .. }) => {
+            let count = size / u64::from(unit);
             if n < 0 {
                 ((1u64 << width) - count) as u32
             } else {
                 count as u32
             }
         }
-        Number::Unsigned(_, unit, _) => (size / unit as u64) as u32,
+        Some(Number::Unsigned { unit, .. }) => (size / u64::from(unit)) as u32,
     }
 }
 
-fn raw_mask(u: Masking, m: i64) -> u32
+fn raw_mask(u: Option<Masking>, m: i64) -> u32
     requires { mask_ok u m ≡ true }
     ensures { result ≡ raw_mask u m }
 {
     match u {
-        Masking::NoMask => 0,
-        Masking::Free => (1 - m.unsigned_abs()) as u32,
-        Masking::Always => (1 - m.unsigned_abs()) as u32,
-        Masking::Never => (1 - m.unsigned_abs()) as u32,
+        None => 0,
+        Some(_) => (1 - m.unsigned_abs()) as u32,
     }
 }
 
 // The fields of a lawful instruction, as they stand in its word.
-pub fn raw_of(form: &Form, f: &Fields) -> Values
-    requires works { Workable form.now.n }
-    requires lawful { lawful form.now f.now ≡ true }
-    requires narrow { raw_number form.now.n f.now.n < 2 ^ 32 }
-    ensures { result ≡ raw form.now f.now }
+pub fn raw_of(form: &KnownForm, f: &Fields) -> Values
+    requires { lawful form.now.form f.now ≡ true }
+    ensures { result ≡ raw form.now.form f.now }
 {
+    let used = &form.form;
     Values {
-        d: raw_reg(form.d, f.d),
-        a: raw_reg(form.a, f.a),
-        b: raw_reg(form.b, f.b),
-        n: raw_number(form.n, f.n),
-        m: raw_mask(form.m, f.m),
-        opcode: form.opcode,
-        funct3: form.funct3,
-        funct: form.funct,
+        d: raw_reg(used.d, f.d),
+        a: raw_reg(used.a, f.a),
+        b: raw_reg(used.b, f.b),
+        n: raw_number(form, f.n),
+        m: raw_mask(used.m, f.m),
+        opcode: used.opcode,
+        funct3: used.funct3,
+        funct: used.funct,
     }
 }

@@ -9,7 +9,7 @@ use Rattle.instructions.specs.Words.{word_of}
 use Rattle.instructions.proofs.Sizes.{low_bits_tell}
 use Rattle.reading.specs.Places.{begun, with_high}
 use Rattle.aiming.proofs.Lawfuls.{aimed_lawful}
-use Rattle.aiming.proofs.Places.{nth_take, nth_take_past}
+use Rattle.reading.proofs.Takes.{nth_take, nth_take_past}
 use Rattle.aiming.proofs.Stands.{halfwords_length, jump_amid, jump_here, jump_apart, jump_put}
 use Rattle.items.specs.Items.{Item, Lawful, words, jumps, in_reach, aimed_at, distance_of, jump_standing}
 use Rattle.items.specs.Laws.{JumpLaws}
@@ -42,20 +42,20 @@ stands cells used p i e =
 
 -- the first halfword of a word has its low two bits
 low : (t : Bool) (x w : ℕ) (o : Option ℕ) → eqb (x % 4) 3 ≡ t → cond t (with_high x o) (Some x) ≡ Some w → w % 4 ≡ x % 4
-low true x w None e h = absurd (let z : ◌≡◌ {A = ℕ} 0 1 = cc in omega arith)
+low true x w None e h = cc
 low true x w (Some y) e h = let f : y * 65536 + x ≡ w = cc in omega arith
 low false x w o e h = let f : x ≡ w = cc in ap (λ n. n % 4) (sym f)
 
 first : (o n : Option ℕ) (w : ℕ) → begun o n ≡ Some w → (x : ℕ) × (o ≡ Some x) × (w % 4 ≡ x % 4)
-first None n w e = absurd (let z : ◌≡◌ {A = ℕ} 0 1 = cc in omega arith)
+first None n w e = cc
 first (Some x) n w e = (x, refl, low (eqb (x % 4) 3) x w n refl e)
 
 read_at : (xs : List ℕ) (used p x : ℕ) → slice_get (take used xs) p ≡ Some x → get_or xs p 0 ≡ x
 read_at xs used p x e =
     elim (cases_lt p used) [
       | inl h ↦ (let f : slice_get xs p ≡ Some x = sym (nth_take used xs p h) ∙ e in
-          elim (cases_lt p (length xs)) [ inl m ↦ (let g = slice_get-get_or xs p 0 m in cc) | inr m ↦ (let g = nth_past xs p m in let z : ◌≡◌ {A = ℕ} 0 1 = cc in absurd (omega arith)) ])
-      | inr h ↦ (let g = nth_take_past used xs p h in let z : ◌≡◌ {A = ℕ} 0 1 = cc in absurd (omega arith))
+          elim (cases_lt p (length xs)) [ inl m ↦ (let g = slice_get-get_or xs p 0 m in cc) | inr m ↦ (let g = nth_past xs p m in cc) ])
+      | inr h ↦ (let g = nth_take_past used xs p h in cc)
     ]
 
 length_by : (cells : List ℕ) (used p : ℕ) (i : Item) → jump_standing cells used p ≡ Some i → length (words i) ≡ cond (eqb (get_or cells p 0 % 4) 3) 2 1

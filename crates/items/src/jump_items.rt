@@ -21,7 +21,7 @@ pub fn jump_standing<S: Store>(store: &S, used: u32, place: u32) -> Option<Instr
 pub fn distance_between(place: u32, goal: u32) -> i64
     ensures { result ≡ distance place goal }
 {
-    2 * (goal as i64 - place as i64)
+    2 * (i64::from(goal) - i64::from(place))
 }
 
 // The halfwords of a jump at one place that leads to another: none where that is out of its reach.

@@ -4,7 +4,6 @@ ghost use Rattle.instructions.specs.Words.{listed};
 ghost use Rattle.items.specs.Items.{item_of, words, jumps};
 
 use instructions::build::known_form;
-use instructions::faults::is_reaching;
 use instructions::instruction::Instruction;
 use instructions::word::{Halfwords, halfwords_of};
 
@@ -19,5 +18,5 @@ pub fn halves_of(i: &Instruction) -> Halfwords
 pub fn is_jump(i: &Instruction) -> bool
     ensures { result ≡ jumps (item_of i.now) }
 {
-    is_reaching(known_form(i.op()).kind)
+    known_form(i.op()).is_jump()
 }

@@ -1,29 +1,30 @@
 // bit 0 up: opcode 0-6 | rd 7-11 | imm[19:12] 12-19 | imm[11] 20 | imm[10:1] 21-30 | imm[20] 31
-ghost use Rattle.std.specs.Prelude.{◌≡◌, ℕ, ◌<◌, true, pos, negsuc};
+ghost use Rattle.std.specs.Prelude.{true, pos, negsuc};
 ghost use Rattle.operands.specs.Ranges.{halved};
 ghost use Rattle.formats.specs.declared.kind.Kind.TheVariants.{J as J-kind};
-ghost use Rattle.jumps.specs.Operands.{J-values, J-fault, J-codes};
-ghost use Rattle.std.proofs.Common.{lit<, ap, sym, subst, rules};
-ghost use Rattle.operands.proofs.Sames.{j_distance_lt, same_num, same_j_distance, j_distance_of, j_distance_of_bits};
-ghost use Rattle.formats.specs.declared.kind.Kind.TheVariants as kinds;
-ghost use Rattle.formats.specs.Layouts.{layout};
-ghost use Rattle.formats.proofs.Codes.{narrow, none_wide, none_there};
-ghost use Rattle.formats.proofs.Sound.{fit_of};
-ghost use Rattle.bits.specs.declared.part.Values.{Values};
-ghost use Rattle.bits.specs.declared.part.Field.TheVariants.{D, A, B, N, M, Opcode, Funct3, Funct};
-ghost use Rattle.jumps.specs.declared.operands_of.JOperands.{JOperands};
+ghost use Rattle.jumps.specs.Operands.{J-values, J-fault};
+ghost use Rattle.jumps.specs.Laws.{J-fits, J-known, J-held, J-kept};
+ghost use Rattle.std.proofs.Common.{rules};
 
 use crate::operands_of::JOperands;
-use bits::fields::{cut, put};
-use bits::part::Values;
-use formats::faults::WideCode;
+use bits::layout::Layout;
+use bits::part::{Field, Part, Values};
+use formats::faults::{WideCode, narrow};
 use formats::format::Format;
-use formats::kind::Kind;
 use formats::reaching::Reaching;
 use operands::distances::JDistance;
 use operands::regs::RegNum;
 
 pub struct J;
+
+const PARTS: [Part; 6] = [
+    Part::Slice(Field::Opcode, 0, 7),
+    Part::Slice(Field::D, 0, 5),
+    Part::Slice(Field::N, 11, 8),
+    Part::Slice(Field::N, 10, 1),
+    Part::Slice(Field::N, 0, 10),
+    Part::Slice(Field::N, 19, 1),
+];
 
 impl Format for J {
     type Operands = JOperands;
@@ -36,44 +37,20 @@ impl Format for J {
 
     ghost allows = { λ v. true };
 
-    ghost fits = { λ o e.
-        let c = narrow (J-codes o) e in
-        fit_of (layout kinds.J) (J-values o) o.rd.ok (lit< tt) (lit< tt) (j_distance_lt o.distance) (lit< tt) c.0 (lit< tt) (lit< tt) };
+    ghost fits = { J-fits };
 
-    ghost known = { λ o p e.
-        let at : (f : Values → ℕ) → f (J-values o) ≡ f (J-values p) = λ f. ap f e in
-        λ i. record {
-          opcode = at (λ v. v.opcode) i;
-          rd = same_num o.rd p.rd (at (λ v. v.d)) i;
-          distance = same_j_distance o.distance p.distance (at (λ v. v.n)) i;
-        } };
+    ghost known = { J-known };
 
     ghost allowed = { Prim.search rules };
 
-    ghost held = { λ v h t.
-        let o : JOperands = record { opcode = v.opcode; rd = record { value = v.d; ok = h D }; distance = j_distance_of v.n (h N) } in
-        (o, (none_wide (J-codes o) (h Opcode, tt), λ i. record { d = v.d; a = none_there v.a (h A) i; b = none_there v.b (h B) i; n = j_distance_of_bits v.n (h N) i; m = none_there v.m (h M) i; opcode = v.opcode; funct3 = none_there v.funct3 (h Funct3) i; funct = none_there v.funct (h Funct) i })) };
+    ghost held = { J-held };
 
-    fn kind_of() -> Kind {
-        Kind::J
+    fn layout() -> Layout<'static> {
+        Layout { parts: &PARTS }
     }
 
-    fn halfwords() -> usize {
-        2
-    }
-
-    fn encode(o: &JOperands) -> Result<u32, WideCode> {
-        if o.opcode >= 128 {
-            return Err(WideCode::Opcode(o.opcode));
-        }
-        let imm = o.distance.bits();
-        let mut bits = o.opcode;
-        bits = put(bits, o.rd.value(), 7, 5);
-        bits = put(bits, cut(imm, 11, 8), 12, 8);
-        bits = put(bits, cut(imm, 10, 1), 20, 1);
-        bits = put(bits, cut(imm, 0, 10), 21, 10);
-        bits = put(bits, cut(imm, 19, 1), 31, 1);
-        Ok(bits)
+    fn check(o: &JOperands) -> Result<(), WideCode> {
+        narrow(WideCode::Opcode(o.opcode), 7)
     }
 
     fn split(o: &JOperands) -> Values {
@@ -111,7 +88,7 @@ impl Reaching for J {
 
     ghost told = { Prim.search rules };
 
-    ghost kept = { λ o p n f e. let c = narrow (J-codes o) f in none_wide (J-codes p) (subst (λ x. x < 128) (sym (ap (λ v. v.opcode) e)) c.0, tt) };
+    ghost kept = { J-kept };
 
     fn least_distance() -> i64 {
         -1048576
@@ -126,11 +103,9 @@ impl Reaching for J {
     }
 
     fn aimed(o: &JOperands, d: i64) -> Option<JOperands> {
-        let distance = JDistance::new(d)?;
         Some(JOperands {
-            opcode: o.opcode,
-            rd: o.rd,
-            distance,
+            distance: JDistance::new(d)?,
+            ..*o
         })
     }
 }

@@ -23,12 +23,13 @@ impl Columns {
         if count(line) != 6 {
             return None;
         }
-        let op = position(line, b"op")?;
-        let d = position(line, b"d")?;
-        let a = position(line, b"a")?;
-        let b = position(line, b"b")?;
-        let n = position(line, b"n")?;
-        let m = position(line, b"m")?;
-        Some(Columns { op, d, a, b, n, m })
+        Some(Columns {
+            op: position(line, b"op")?,
+            d: position(line, b"d")?,
+            a: position(line, b"a")?,
+            b: position(line, b"b")?,
+            n: position(line, b"n")?,
+            m: position(line, b"m")?,
+        })
     }
 }

@@ -1,10 +1,11 @@
 // Why a line of a sheet is refused.
 ghost use Rattle.std.specs.Prelude.{◌≡◌};
-ghost use Rattle.lines.specs.declared.faults.LineFault.TheVariants.{Emit};
+ghost use Rattle.lines.specs.declared.faults.LineFault.TheVariants.{NoNewline, Emit};
 ghost use Rattle.lines.specs.Numbers.{refusal, sheet_refusal};
 
 use bits::part::Field;
 use program::faults::EmitFault;
+use text::lines::Unended;
 
 #[derive(Clone, Copy, PartialEq, Eq, Debug)]
 pub enum LineFault {
@@ -30,17 +31,23 @@ impl From<EmitFault> for LineFault {
     }
 }
 
+impl From<Unended<'_>> for LineFault {
+    ghost from_gives = { λ _ l. l ≡ NoNewline };
+
+    fn from(_unended: Unended<'_>) -> LineFault {
+        LineFault::NoNewline
+    }
+}
+
 impl LineFault {
-    // The number of the refusal.
+    // The number of the refusal. Stays a number: callers are told it, as docs/REFUSALS.md lists it.
     pub fn number(&self) -> u8
         ensures { result ≡ refusal self.now }
     {
         match self {
             LineFault::Names => 16,
-            LineFault::FieldCount(_) => 17,
-            LineFault::NoNewline => 17,
-            LineFault::UnknownOperation => 18,
-            LineFault::NoNumber(_) => 18,
+            LineFault::FieldCount(_) | LineFault::NoNewline => 17,
+            LineFault::UnknownOperation | LineFault::NoNumber(_) => 18,
             LineFault::Emit(e) => e.number(),
         }
     }
@@ -54,7 +61,7 @@ pub struct SheetFault {
 }
 
 impl SheetFault {
-    // The number of the refusal.
+    // The number of the refusal. Stays a number: callers are told it, as docs/REFUSALS.md lists it.
     pub fn number(&self) -> u8
         ensures { result ≡ sheet_refusal self.now }
     {

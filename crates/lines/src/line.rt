@@ -1,7 +1,8 @@
 // A line's operation and fields.
-ghost use Rattle.std.specs.Prelude.{◌≡◌};
+ghost use Rattle.std.specs.Prelude.{◌≡◌, Ok, MatchResult};
 ghost use Rattle.operations.specs.Names.{placed};
-ghost use Rattle.lines.specs.Lines.{operation_at, number_at, lined, shown_line};
+ghost use Rattle.lines.specs.declared.faults.LineFault.TheVariants.{NoNumber};
+ghost use Rattle.lines.specs.Lines.{operation_at, number_at, there, lined, shown_line};
 
 use crate::columns::Columns;
 use crate::faults::LineFault;
@@ -9,23 +10,28 @@ use bits::part::Field;
 use instructions::fields::Fields;
 use operations::names::by_name;
 use operations::operation::Operation;
-use text::fields::{count, get, text};
-use text::numbers::value;
+use text::fields::{count, get};
 
 // The operation that field `k` names.
 fn operation_of(line: &[u8], k: usize) -> Option<Operation>
     ensures { placed result ≡ operation_at line.now k }
 {
-    let f = get(line, k)?;
-    by_name(text(f))
+    by_name(get(line, k)?.text())
 }
 
 // The number in field `k`.
 fn number_of(line: &[u8], k: usize) -> Option<i64>
     ensures { result ≡ number_at line.now k }
 {
-    let f = get(line, k)?;
-    value(f)
+    get(line, k)?.value()
+}
+
+// The number in field `k`, which is this field of the instruction.
+fn number(line: &[u8], k: usize, field: Field) -> Result<i64, LineFault>
+    ensures is { result ≡ there (NoNumber field) (number_at line.now k) Ok }
+    ensures cases { MatchResult result (λ n. number_at line.now k ≡ Some n) (λ e. (number_at line.now k ≡ None) × (e ≡ NoNumber field)) }
+{
+    number_of(line, k).ok_or(LineFault::NoNumber(field))
 }
 
 // An operation and its fields, as a line gives them.
@@ -44,27 +50,14 @@ impl Line {
         if fields != 6 {
             return Err(LineFault::FieldCount(fields));
         }
-        let Some(op) = operation_of(line, columns.op) else {
-            return Err(LineFault::UnknownOperation);
+        let op = operation_of(line, columns.op).ok_or(LineFault::UnknownOperation)?;
+        let fields = Fields {
+            d: number(line, columns.d, Field::D)?,
+            a: number(line, columns.a, Field::A)?,
+            b: number(line, columns.b, Field::B)?,
+            n: number(line, columns.n, Field::N)?,
+            m: number(line, columns.m, Field::M)?,
         };
-        let Some(d) = number_of(line, columns.d) else {
-            return Err(LineFault::NoNumber(Field::D));
-        };
-        let Some(a) = number_of(line, columns.a) else {
-            return Err(LineFault::NoNumber(Field::A));
-        };
-        let Some(b) = number_of(line, columns.b) else {
-            return Err(LineFault::NoNumber(Field::B));
-        };
-        let Some(n) = number_of(line, columns.n) else {
-            return Err(LineFault::NoNumber(Field::N));
-        };
-        let Some(m) = number_of(line, columns.m) else {
-            return Err(LineFault::NoNumber(Field::M));
-        };
-        Ok(Line {
-            op,
-            fields: Fields { d, a, b, n, m },
-        })
+        Ok(Line { op, fields })
     }
 }

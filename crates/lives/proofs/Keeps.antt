@@ -55,47 +55,44 @@ record_before f xs j k y h = ap (map f) (take-set-le j xs k y h)
 
 -- ---- what a taken call passed
 
-pub no_ok : {F : Type 0} {e : F} {u : Unit {0}} → ◌≡◌ {A = Result (Unit {0}) F} (Ok u) (Err e) → ⊥
-no_ok h = let z : ◌≡◌ {A = ℕ} 0 1 = cc in omega arith
-
 pub raised_ok : {F : Type 0} (f : F → Fault) (r : Result (Unit {0}) F) (u : Unit {0}) → Ok u ≡ raised f r → Ok u ≡ r
 raised_ok f (Ok v) u e = ap Ok refl
-raised_ok f (Err x) u e = absurd (no_ok e)
+raised_ok f (Err x) u e = cc
 
 -- a test that was passed
 pub passed : {F : Type 0} (t : Bool) (r : Result (Unit {0}) F) (e : F) (u : Unit {0}) → Ok u ≡ cond t r (Err e) → (t ≡ true) × (Ok u ≡ r)
 passed true r e u h = (refl, h)
-passed false r e u h = absurd (no_ok h)
+passed false r e u h = cc
 
 -- a test that was not met
 missed : {F : Type 0} (t : Bool) (r : Result (Unit {0}) F) (e : F) (u : Unit {0}) → Ok u ≡ cond t (Err e) r → (t ≡ false) × (Ok u ≡ r)
-missed true r e u h = absurd (no_ok h)
+missed true r e u h = cc
 missed false r e u h = (refl, h)
 
 fault_passed : (o : Option JumpFault) (r : _) (u : Unit {0}) → Ok u ≡ after_fault o r → (o ≡ None) × (Ok u ≡ r)
 fault_passed None r u h = (refl, h)
-fault_passed (Some e) r u h = absurd (no_ok h)
+fault_passed (Some e) r u h = cc
 
 label_passed : (l : ℤ) (o : Option ℕ) (r : _) (u : Unit {0}) → Ok u ≡ with_label l o r → Ok u ≡ r
-label_passed l None r u h = absurd (no_ok h)
+label_passed l None r u h = cc
 label_passed l (Some k) r u h = h
 
 bound_passed : (n : ℕ) (l : ℤ) (ls : List (ℕ × ℕ)) (o : Option ℕ) (u : Unit {0}) → Ok u ≡ bound_as n l ls o → n < 64
-bound_passed n l ls None u h = absurd (no_ok h)
+bound_passed n l ls None u h = cc
 bound_passed n l ls (Some k) u h = go (place_of ls k) h
   where
     go : (p : Option ℕ) → Ok u ≡ bound_at n l p → n < 64
-    go (Some p) x = absurd (no_ok x)
+    go (Some p) x = cc
     go None x = ltb-true n 64 (passed (ltb n 64) (Ok tt) _ u x).0
 
 -- a jump without a fault is a lawful jump
 faultless : (o : Option BuildFault) → as_build o ≡ None → is_none o ≡ true
 faultless None e = refl
-faultless (Some b) e = absurd (let z : ◌≡◌ {A = ℕ} 0 1 = cc in omega arith)
+faultless (Some b) e = cc
 
 reaching : (t : Bool) (o : Option JumpFault) (e : JumpFault) → cond t o (Some e) ≡ None → (t ≡ true) × (o ≡ None)
 reaching true o e h = (refl, h)
-reaching false o e h = absurd (let z : ◌≡◌ {A = ℕ} 0 1 = cc in omega arith)
+reaching false o e h = cc
 
 jump_lawful : (t : JumpTo) → jump_fault t.op.place t.d t.a t.b ≡ None → Lawful (jump_item t) × (jumps (jump_item t) ≡ true)
 unfolding Lawful jumps

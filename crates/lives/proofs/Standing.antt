@@ -12,9 +12,6 @@ use Rattle.lives.specs.Listing.{Slot, with_pair, with_value}
 use Rattle.lives.specs.Life.{Starts, EachHolds}
 use Rattle.lives.specs.Tied.{Stands, none, some, jump, slot, Any, AllStart}
 
-pub no_some : {A : Type 0} {d : A} → ◌≡◌ {A = Option A} None (Some d) → ⊥
-no_some h = let z : ◌≡◌ {A = ℕ} 0 1 = cc in omega arith
-
 -- a pair, and what follows it
 pub pair_length : (d v : ℤ) (xs : List ℕ) → length (pair d v ++ xs) ≡ 4 + length xs
 pair_length d v xs =
@@ -100,7 +97,7 @@ holds_code {P} {at} {js} (slot d v is ss r m s) pre post e =
 
 pub slot_inside : {P : ℕ × ℕ → ℤ → Type 0} {at : ℕ} {is : List Item} {js : List (ℕ × ℕ)} {ss : List Slot} → Stands P at is js ss → (k : ℕ) (x : Slot) → slice_get ss k ≡ Some x →
     (at ≤ x.place) × (x.place + 4 ≤ at + length (halfs is)) × (register_ok x.register ≡ true)
-slot_inside none k x e = absurd (no_some e)
+slot_inside none k x e = cc
 slot_inside {P} {at} (some i is w p s) k x e = let h = slot_inside s k x e in let a = length-append (words i) (halfs is) in let b = h.0 in let c = h.1 in (omega arith, omega arith, h.2)
 slot_inside {P} {at} (jump l i is js w p q s) k x e = let h = slot_inside s k x e in let a = length-append (words i) (halfs is) in let b = h.0 in let c = h.1 in (omega arith, omega arith, h.2)
 slot_inside {P} {at} (slot d v is ss r m s) zero x e =
@@ -153,7 +150,7 @@ past {P} {at} i {is} {js} {js₁} {ss} {k} {w} {x} h f r =
     }
 
 pub give : {P : ℕ × ℕ → ℤ → Type 0} {at : ℕ} {is : List Item} {js : List (ℕ × ℕ)} {ss : List Slot} → Stands P at is js ss → (k : ℕ) (w : ℤ) (x : Slot) → slice_get ss k ≡ Some x → makeable w ≡ true → Given P at is js ss k w x
-give none k w x e h = absurd (no_some e)
+give none k w x e h = cc
 give {P} {at} (some i is f p s) k w x e h = past i (let a = (slot_inside s k x e).0 in let b = item_laws.some i in omega arith) (λ ks ts t. some i ks f p t) (give s k w x e h)
 give {P} {at} (jump l i is js f p q s) k w x e h = past i (let a = (slot_inside s k x e).0 in let b = item_laws.some i in omega arith) (λ ks ts t. jump l i ks js f p q t) (give s k w x e h)
 give {P} {at} {js} (slot d v is ss r m s) zero w x e h =

@@ -1,9 +1,10 @@
 // The calls of a life, and their answers.
-use calls::faults::{BindFault, ConstantFault, EmitFault, PlaceFault};
+use calls::faults::{BindFault, ConstantFault, PlaceFault};
 use calls::jump::JumpTo;
 use changing::edits::Edit;
 use changing::faults::{ChangeFault, ValueFault};
 use instructions::instruction::Instruction;
+use program::faults::EmitFault;
 use sealing::faults::SealFault;
 
 // A register and the number that it is loaded with.
@@ -45,6 +46,7 @@ pub enum Fault {
     Value(ValueFault),
 }
 
+// Stays an enum of four: a taken call and a told value, a refusal and a call out of state are no two sides of a Result.
 #[derive(Clone, Copy)]
 pub enum Answer {
     Taken,

@@ -1,8 +1,6 @@
 //! Compressed loads and stores by a base register.
 #![tactic(auto)]
 
-pub mod cl_double;
-pub mod cl_word;
-pub mod cs_double;
-pub mod cs_word;
+pub mod cl;
+pub mod cs;
 pub mod operands_of;

@@ -1,9 +1,10 @@
 // The operands of each format: registers and constants in their range, and plain codes.
+// Stays: two structs, since a load names where it puts what it reads, a store what it writes, and these are other fields.
 use operands::imms::UImm5;
 use operands::regs::ShortNum;
 
 #[derive(Clone, Copy)]
-pub struct CsWordOperands {
+pub struct CsOperands {
     pub opcode: u32,
     pub src: ShortNum,
     pub base: ShortNum,
@@ -12,25 +13,7 @@ pub struct CsWordOperands {
 }
 
 #[derive(Clone, Copy)]
-pub struct CsDoubleOperands {
-    pub opcode: u32,
-    pub src: ShortNum,
-    pub base: ShortNum,
-    pub imm: UImm5,
-    pub funct3: u32,
-}
-
-#[derive(Clone, Copy)]
-pub struct ClWordOperands {
-    pub opcode: u32,
-    pub rd: ShortNum,
-    pub base: ShortNum,
-    pub imm: UImm5,
-    pub funct3: u32,
-}
-
-#[derive(Clone, Copy)]
-pub struct ClDoubleOperands {
+pub struct ClOperands {
     pub opcode: u32,
     pub rd: ShortNum,
     pub base: ShortNum,

@@ -1,134 +1,97 @@
 // Distances of jumps, in bytes, each even.
-ghost use Rattle.std.specs.Prelude.{◌≡◌, ◌^◌, ◌<◌, ◌≤◌, MatchOption};
-ghost use Rattle.operands.specs.Ranges.{ReachB, ReachJ, ReachCj, halved};
+ghost use Rattle.std.specs.Prelude.{◌≡◌, ◌^◌, ◌<◌, ◌≤◌, MatchOption, MatchResult};
+ghost use Rattle.operands.specs.Ranges.{Reach, halved};
 
-use bits::signs::{sign, unsign};
+use crate::range::{OutOfRange, double, halve, reaches};
 
-// even, -4096 to 4094
-#[derive(Clone, Copy)]
-pub struct BDistance {
-    value: i32,
-    ghost ok: { ReachB value },
+// An even number whose half has WIDTH bits in two's complement.
+#[derive(Clone, Copy, PartialEq, Eq, Debug)]
+pub struct Distance<const WIDTH: u32> {
+    value: i64,
+    ghost ok: { Reach WIDTH value },
 }
 
-impl BDistance {
-    pub fn new(val: i64) -> Option<BDistance>
-        ensures { MatchOption result (ReachB val → ⊥) (λ d. d.value ≡ val) }
-    {
-        if val >= -4096 && val <= 4094 && val.unsigned_abs() % 2 == 0 {
-            Some(BDistance { value: val as i32 })
+// even, -4096 to 4094
+pub type BDistance = Distance<12>;
+
+// even, -1048576 to 1048574
+pub type JDistance = Distance<20>;
+
+// even, -2048 to 2046
+pub type CjDistance = Distance<11>;
+
+impl<const WIDTH: u32> TryFrom<i64> for Distance<WIDTH> {
+    type Error = OutOfRange;
+
+    ghost try_from_gives = { λ n r. MatchResult r (λ d. d.value ≡ n) (λ _. Reach WIDTH n → ⊥) };
+
+    fn try_from(value: i64) -> Result<Distance<WIDTH>, OutOfRange> {
+        if reaches(WIDTH, value) {
+            Ok(Distance { value })
         } else {
-            None
+            Err(OutOfRange)
         }
+    }
+}
+
+impl<const WIDTH: u32> From<Distance<WIDTH>> for i64 {
+    ghost from_gives = { λ d n. n ≡ d.value };
+
+    fn from(distance: Distance<WIDTH>) -> i64 {
+        distance.value
+    }
+}
+
+impl<const WIDTH: u32> Distance<WIDTH> {
+    pub fn new(val: i64) -> Option<Distance<WIDTH>>
+        ensures { MatchOption result (Reach WIDTH val → ⊥) (λ d. d.value ≡ val) }
+    {
+        Distance::try_from(val).ok()
     }
 
     pub fn value(&self) -> i64
         ensures { result ≡ self.now.value }
     {
-        self.value as i64
+        self.value
     }
 
     // The distance whose bits, without the lowest, these are.
-    pub fn of_bits(bits: u32) -> BDistance
-        requires { bits < 2 ^ 12 }
-        ensures { halved 12 result.value ≡ bits }
+    pub fn of_bits(bits: u32) -> Distance<WIDTH>
+        requires { bits < 2 ^ WIDTH }
+        ensures { halved WIDTH result.value ≡ bits }
     {
-        BDistance {
-            value: sign(2 * bits, 13),
+        Distance {
+            value: double(bits, WIDTH),
         }
     }
+}
 
+impl BDistance {
     // The two's complement without its lowest bit: twelve bits.
     pub fn bits(&self) -> u32
         ensures is { result ≡ halved 12 self.now.value }
         ensures narrow { result < 2 ^ 12 }
     {
-        unsign(self.value, 13) / 2
+        halve(self.value, 12)
     }
-}
-
-// even, -1048576 to 1048574
-#[derive(Clone, Copy)]
-pub struct JDistance {
-    value: i32,
-    ghost ok: { ReachJ value },
 }
 
 impl JDistance {
-    pub fn new(val: i64) -> Option<JDistance>
-        ensures { MatchOption result (ReachJ val → ⊥) (λ d. d.value ≡ val) }
-    {
-        if val >= -1048576 && val <= 1048574 && val.unsigned_abs() % 2 == 0 {
-            Some(JDistance { value: val as i32 })
-        } else {
-            None
-        }
-    }
-
-    pub fn value(&self) -> i64
-        ensures { result ≡ self.now.value }
-    {
-        self.value as i64
-    }
-
-    // The distance whose bits, without the lowest, these are.
-    pub fn of_bits(bits: u32) -> JDistance
-        requires { bits < 2 ^ 20 }
-        ensures { halved 20 result.value ≡ bits }
-    {
-        JDistance {
-            value: sign(2 * bits, 21),
-        }
-    }
-
     // The two's complement without its lowest bit: twenty bits.
     pub fn bits(&self) -> u32
         ensures is { result ≡ halved 20 self.now.value }
         ensures narrow { result < 2 ^ 20 }
     {
-        unsign(self.value, 21) / 2
+        halve(self.value, 20)
     }
-}
-
-// even, -2048 to 2046
-#[derive(Clone, Copy)]
-pub struct CjDistance {
-    value: i32,
-    ghost ok: { ReachCj value },
 }
 
 impl CjDistance {
-    pub fn new(val: i64) -> Option<CjDistance>
-        ensures { MatchOption result (ReachCj val → ⊥) (λ d. d.value ≡ val) }
-    {
-        if val >= -2048 && val <= 2046 && val.unsigned_abs() % 2 == 0 {
-            Some(CjDistance { value: val as i32 })
-        } else {
-            None
-        }
-    }
-
-    pub fn value(&self) -> i64
-        ensures { result ≡ self.now.value }
-    {
-        self.value as i64
-    }
-
-    // The distance whose bits, without the lowest, these are.
-    pub fn of_bits(bits: u32) -> CjDistance
-        requires { bits < 2 ^ 11 }
-        ensures { halved 11 result.value ≡ bits }
-    {
-        CjDistance {
-            value: sign(2 * bits, 12),
-        }
-    }
-
     // The two's complement without its lowest bit: eleven bits.
     pub fn bits(&self) -> u32
         ensures is { result ≡ halved 11 self.now.value }
         ensures narrow { result < 2 ^ 11 }
     {
-        unsign(self.value, 12) / 2
+        halve(self.value, 11)
     }
 }

@@ -1,8 +1,7 @@
 // A number as an upper and a lower immediate.
 ghost use Rattle.std.specs.Prelude.{◌≡◌, Some, MatchOption};
 ghost use Rattle.operands.specs.Ranges.{Makeable, made};
-ghost use Rattle.operands.specs.declared.imms.Imm12.{Imm12};
-ghost use Rattle.operands.specs.declared.imms.Imm20.{Imm20};
+ghost use Rattle.operands.specs.declared.imms.Signed.{Signed};
 
 use crate::imms::{Imm12, Imm20};
 
@@ -12,15 +11,15 @@ fn pair_of(value: i64) -> (Imm20, Imm12)
     ensures { made result.0.value result.1.value ≡ value }
 {
     let above = (value + 2147485696) as u64;
-    let high = (above / 4096) as i32 - 524288;
-    let low = (above % 4096) as i32 - 2048;
+    let high = (above / 4096) as i64 - 524288;
+    let low = (above % 4096) as i64 - 2048;
     (Imm20 { value: high }, Imm12 { value: low })
 }
 
 // The one pair with 4096 * high + low the value: none where there is none.
 pub fn generate_imm(value: i64) -> Option<(Imm20, Imm12)>
     ensures is { MatchOption result (Makeable value → ⊥) (λ p. made p.0.value p.1.value ≡ value) }
-    ensures only { (h : Imm20) (l : Imm12) → made h.value l.value ≡ value → result ≡ Some (h, l) }
+    ensures only { (h : Signed 20) (l : Signed 12) → made h.value l.value ≡ value → result ≡ Some (h, l) }
 {
     if value < -2147485696 || value > 2147481599 {
         return None;

@@ -1,26 +1,88 @@
 // Immediates.
-ghost use Rattle.std.specs.Prelude.{◌≡◌, ◌^◌, ◌<◌, ◌≤◌, pos, MatchOption};
+ghost use Rattle.std.specs.Prelude.{◌≡◌, ◌^◌, ◌<◌, ◌≤◌, pos, MatchOption, MatchResult};
 ghost use Rattle.bits.specs.Twos.{twos, signed};
-ghost use Rattle.operands.specs.Ranges.{Within5, Within6, Within12, Within20};
+ghost use Rattle.operands.specs.Ranges.{Within, Within5, Within6, Within12, Within20};
 
-use bits::signs::{sign, unsign};
+use crate::range::{OutOfRange, cut, extend, fits, holds};
 
-// -16 to 15
-#[derive(Clone, Copy)]
-pub struct Imm5 {
-    value: i32,
-    ghost ok: { Within5 value },
+// A number of WIDTH bits in two's complement.
+#[derive(Clone, Copy, PartialEq, Eq, Debug)]
+pub struct Signed<const WIDTH: u32> {
+    pub(crate) value: i64,
+    ghost ok: { Within WIDTH value },
 }
 
+// -16 to 15
+pub type Imm5 = Signed<5>;
+
+// -32 to 31
+pub type Imm6 = Signed<6>;
+
+// -2048 to 2047
+pub type Imm12 = Signed<12>;
+
+// -524288 to 524287
+pub type Imm20 = Signed<20>;
+
+impl<const WIDTH: u32> TryFrom<i64> for Signed<WIDTH> {
+    type Error = OutOfRange;
+
+    ghost try_from_gives = { λ n r. MatchResult r (λ i. i.value ≡ n) (λ _. Within WIDTH n → ⊥) };
+
+    fn try_from(value: i64) -> Result<Signed<WIDTH>, OutOfRange> {
+        if holds(WIDTH, value) {
+            Ok(Signed { value })
+        } else {
+            Err(OutOfRange)
+        }
+    }
+}
+
+impl<const WIDTH: u32> From<Signed<WIDTH>> for i64 {
+    ghost from_gives = { λ i n. n ≡ i.value };
+
+    fn from(number: Signed<WIDTH>) -> i64 {
+        number.value
+    }
+}
+
+impl<const WIDTH: u32> Signed<WIDTH> {
+    pub fn zero() -> Signed<WIDTH>
+        ensures { result.value ≡ pos 0 }
+    {
+        Signed { value: 0 }
+    }
+
+    // A u64 is read as signed.
+    pub fn maybe_from_u64(val: u64) -> Option<Signed<WIDTH>>
+        ensures { MatchOption result (Within WIDTH (signed 64 val) → ⊥) (λ i. i.value ≡ signed 64 val) }
+    {
+        Signed::maybe_from_i64(val.cast_signed())
+    }
+
+    pub fn maybe_from_i64(val: i64) -> Option<Signed<WIDTH>>
+        ensures { MatchOption result (Within WIDTH val → ⊥) (λ i. i.value ≡ val) }
+    {
+        Signed::try_from(val).ok()
+    }
+
+    // The number whose bits these are.
+    pub fn of_bits(bits: u32) -> Signed<WIDTH>
+        requires { bits < 2 ^ WIDTH }
+        ensures { twos WIDTH result.value ≡ bits }
+    {
+        Signed {
+            value: extend(bits, WIDTH),
+        }
+    }
+}
+
+// Stays: each immediate has bits of its own, as the Rust gives a u8 for some and a u32 for others.
 impl Imm5 {
     pub fn maybe_from_i8(val: i8) -> Option<Imm5>
         ensures { MatchOption result (Within5 val → ⊥) (λ i. i.value ≡ val) }
     {
-        if val >= -16 && val <= 15 {
-            Some(Imm5 { value: val as i32 })
-        } else {
-            None
-        }
+        Imm5::maybe_from_i64(i64::from(val))
     }
 
     // The immediate of five bits: none where there are more.
@@ -28,19 +90,9 @@ impl Imm5 {
         ensures { MatchOption result (2 ^ 5 ≤ value) (λ i. twos 5 i.value ≡ value) }
     {
         if value < 32 {
-            Some(Imm5::of_bits(value as u32))
+            Some(Imm5::of_bits(u32::from(value)))
         } else {
             None
-        }
-    }
-
-    // The immediate whose bits these are.
-    pub fn of_bits(bits: u32) -> Imm5
-        requires { bits < 2 ^ 5 }
-        ensures { twos 5 result.value ≡ bits }
-    {
-        Imm5 {
-            value: sign(bits, 5),
         }
     }
 
@@ -49,48 +101,27 @@ impl Imm5 {
         ensures is { result ≡ twos 5 self.now.value }
         ensures narrow { result < 2 ^ 5 }
     {
-        unsign(self.value, 5) as u8
+        cut(self.value, 5) as u8
     }
-}
-
-// -32 to 31
-#[derive(Clone, Copy)]
-pub struct Imm6 {
-    value: i32,
-    ghost ok: { Within6 value },
 }
 
 impl Imm6 {
     pub fn maybe_from_i16(val: i16) -> Option<Imm6>
         ensures { MatchOption result (Within6 val → ⊥) (λ i. i.value ≡ val) }
     {
-        Imm6::maybe_from_i32(val as i32)
+        Imm6::maybe_from_i32(i32::from(val))
     }
 
     pub fn maybe_from_i32(val: i32) -> Option<Imm6>
         ensures { MatchOption result (Within6 val → ⊥) (λ i. i.value ≡ val) }
     {
-        if val >= -32 && val <= 31 {
-            Some(Imm6 { value: val })
-        } else {
-            None
-        }
+        Imm6::maybe_from_i64(i64::from(val))
     }
 
     pub fn maybe_from_imm12(value: Imm12) -> Option<Imm6>
         ensures { MatchOption result (Within6 value.value → ⊥) (λ i. i.value ≡ value.value) }
     {
-        Imm6::maybe_from_i32(value.value)
-    }
-
-    // The immediate whose bits these are.
-    pub fn of_bits(bits: u32) -> Imm6
-        requires { bits < 2 ^ 6 }
-        ensures { twos 6 result.value ≡ bits }
-    {
-        Imm6 {
-            value: sign(bits, 6),
-        }
+        Imm6::maybe_from_i64(i64::from(value))
     }
 
     // The two's complement, cut to six bits.
@@ -98,51 +129,21 @@ impl Imm6 {
         ensures is { result ≡ twos 6 self.now.value }
         ensures narrow { result < 2 ^ 6 }
     {
-        unsign(self.value, 6) as u8
+        cut(self.value, 6) as u8
     }
-}
-
-// -2048 to 2047
-#[derive(Clone, Copy)]
-pub struct Imm12 {
-    pub(crate) value: i32,
-    ghost ok: { Within12 value },
 }
 
 impl Imm12 {
-    pub fn zero() -> Imm12
-        ensures { result.value ≡ pos 0 }
-    {
-        Imm12 { value: 0 }
-    }
-
     pub fn one() -> Imm12
         ensures { result.value ≡ pos 1 }
     {
-        Imm12 { value: 1 }
-    }
-
-    // A u64 is read as signed.
-    pub fn maybe_from_u64(val: u64) -> Option<Imm12>
-        ensures { MatchOption result (Within12 (signed 64 val) → ⊥) (λ i. i.value ≡ signed 64 val) }
-    {
-        Imm12::maybe_from_i64(val.cast_signed())
-    }
-
-    pub fn maybe_from_i64(val: i64) -> Option<Imm12>
-        ensures { MatchOption result (Within12 val → ⊥) (λ i. i.value ≡ val) }
-    {
-        if val >= -2048 && val <= 2047 {
-            Some(Imm12 { value: val as i32 })
-        } else {
-            None
-        }
+        Signed { value: 1 }
     }
 
     pub fn from_i16(val: i16) -> Option<Imm12>
         ensures { MatchOption result (Within12 val → ⊥) (λ i. i.value ≡ val) }
     {
-        Imm12::maybe_from_i64(val as i64)
+        Imm12::maybe_from_i64(i64::from(val))
     }
 
     pub fn as_i16(&self) -> i16
@@ -151,84 +152,26 @@ impl Imm12 {
         self.value as i16
     }
 
-    // The immediate whose bits these are.
-    pub fn of_bits(bits: u32) -> Imm12
-        requires { bits < 2 ^ 12 }
-        ensures { twos 12 result.value ≡ bits }
-    {
-        Imm12 {
-            value: sign(bits, 12),
-        }
-    }
-
     // The two's complement, cut to twelve bits.
     pub fn bits(&self) -> u32
         ensures is { result ≡ twos 12 self.now.value }
         ensures narrow { result < 2 ^ 12 }
     {
-        unsign(self.value, 12)
+        cut(self.value, 12)
     }
-}
-
-impl From<Imm12> for i64 {
-    ghost from_gives = { λ i n. n ≡ i.value };
-
-    fn from(i: Imm12) -> i64 {
-        i.value as i64
-    }
-}
-
-// -524288 to 524287
-#[derive(Clone, Copy)]
-pub struct Imm20 {
-    pub(crate) value: i32,
-    ghost ok: { Within20 value },
 }
 
 impl Imm20 {
-    pub fn zero() -> Imm20
-        ensures { result.value ≡ pos 0 }
-    {
-        Imm20 { value: 0 }
-    }
-
-    // A u64 is read as signed.
-    pub fn maybe_from_u64(val: u64) -> Option<Imm20>
-        ensures { MatchOption result (Within20 (signed 64 val) → ⊥) (λ i. i.value ≡ signed 64 val) }
-    {
-        Imm20::maybe_from_i64(val.cast_signed())
-    }
-
-    pub fn maybe_from_i64(val: i64) -> Option<Imm20>
-        ensures { MatchOption result (Within20 val → ⊥) (λ i. i.value ≡ val) }
-    {
-        if val >= -524288 && val <= 524287 {
-            Some(Imm20 { value: val as i32 })
-        } else {
-            None
-        }
-    }
-
     pub fn from_i32(val: i32) -> Option<Imm20>
         ensures { MatchOption result (Within20 val → ⊥) (λ i. i.value ≡ val) }
     {
-        Imm20::maybe_from_i64(val as i64)
+        Imm20::maybe_from_i64(i64::from(val))
     }
 
     pub fn as_i32(&self) -> i32
         ensures { result ≡ self.now.value }
     {
-        self.value
-    }
-
-    // The immediate whose bits these are.
-    pub fn of_bits(bits: u32) -> Imm20
-        requires { bits < 2 ^ 20 }
-        ensures { twos 20 result.value ≡ bits }
-    {
-        Imm20 {
-            value: sign(bits, 20),
-        }
+        self.value as i32
     }
 
     // The two's complement, cut to twenty bits.
@@ -236,36 +179,75 @@ impl Imm20 {
         ensures is { result ≡ twos 20 self.now.value }
         ensures narrow { result < 2 ^ 20 }
     {
-        unsign(self.value, 20)
+        cut(self.value, 20)
     }
+}
+
+// A number of WIDTH bits without a sign.
+#[derive(Clone, Copy, PartialEq, Eq, Debug)]
+pub struct Unsigned<const WIDTH: u32> {
+    value: u32,
+    ghost ok: { value < 2 ^ WIDTH },
 }
 
 // 0 to 31
-#[derive(Clone, Copy)]
-pub struct UImm5 {
-    value: u32,
-    ghost ok: { value < 2 ^ 5 },
+pub type UImm5 = Unsigned<5>;
+
+// 0 to 63
+pub type Uimm6 = Unsigned<6>;
+
+// 0 to 255
+pub type Uimm8 = Unsigned<8>;
+
+impl<const WIDTH: u32> TryFrom<u32> for Unsigned<WIDTH> {
+    type Error = OutOfRange;
+
+    ghost try_from_gives = { λ n r. MatchResult r (λ i. i.value ≡ n) (λ _. 2 ^ WIDTH ≤ n) };
+
+    fn try_from(value: u32) -> Result<Unsigned<WIDTH>, OutOfRange> {
+        if fits(WIDTH, value) {
+            Ok(Unsigned { value })
+        } else {
+            Err(OutOfRange)
+        }
+    }
+}
+
+impl<const WIDTH: u32> From<Unsigned<WIDTH>> for u32 {
+    ghost from_gives = { λ i n. n ≡ i.value };
+
+    fn from(constant: Unsigned<WIDTH>) -> u32 {
+        constant.value
+    }
+}
+
+impl From<u8> for Uimm8 {
+    ghost from_gives = { λ n i. i.value ≡ n };
+
+    fn from(value: u8) -> Uimm8 {
+        Unsigned {
+            value: u32::from(value),
+        }
+    }
+}
+
+impl<const WIDTH: u32> Unsigned<WIDTH> {
+    pub fn maybe_from_u8(value: u8) -> Option<Unsigned<WIDTH>>
+        ensures { MatchOption result (2 ^ WIDTH ≤ value) (λ i. i.value ≡ value) }
+    {
+        Unsigned::try_from(u32::from(value)).ok()
+    }
+
+    // The number of the bits `value`.
+    pub fn of_bits(value: u32) -> Unsigned<WIDTH>
+        requires { value < 2 ^ WIDTH }
+        ensures { result.value ≡ value }
+    {
+        Unsigned { value }
+    }
 }
 
 impl UImm5 {
-    pub fn maybe_from_u8(value: u8) -> Option<UImm5>
-        ensures { MatchOption result (2 ^ 5 ≤ value) (λ i. i.value ≡ value) }
-    {
-        if value < 32 {
-            Some(UImm5::of_bits(value as u32))
-        } else {
-            None
-        }
-    }
-
-    // The immediate of five bits.
-    pub fn of_bits(value: u32) -> UImm5
-        requires { value < 2 ^ 5 }
-        ensures { result.value ≡ value }
-    {
-        UImm5 { value }
-    }
-
     pub fn bits(&self) -> u32
         ensures is { result ≡ self.now.value }
         ensures narrow { result < 2 ^ 5 }
@@ -274,32 +256,7 @@ impl UImm5 {
     }
 }
 
-// 0 to 63
-#[derive(Clone, Copy)]
-pub struct Uimm6 {
-    value: u32,
-    ghost ok: { value < 2 ^ 6 },
-}
-
 impl Uimm6 {
-    pub fn maybe_from_u8(value: u8) -> Option<Uimm6>
-        ensures { MatchOption result (2 ^ 6 ≤ value) (λ i. i.value ≡ value) }
-    {
-        if value < 64 {
-            Some(Uimm6::of_bits(value as u32))
-        } else {
-            None
-        }
-    }
-
-    // The immediate of six bits.
-    pub fn of_bits(value: u32) -> Uimm6
-        requires { value < 2 ^ 6 }
-        ensures { result.value ≡ value }
-    {
-        Uimm6 { value }
-    }
-
     pub fn bits(&self) -> u8
         ensures is { result ≡ self.now.value }
         ensures narrow { result < 2 ^ 6 }
@@ -308,26 +265,11 @@ impl Uimm6 {
     }
 }
 
-// 0 to 255
-#[derive(Clone, Copy)]
-pub struct Uimm8 {
-    value: u32,
-    ghost ok: { value < 2 ^ 8 },
-}
-
 impl Uimm8 {
     pub fn new(value: u8) -> Uimm8
         ensures { result.value ≡ value }
     {
-        Uimm8::of_bits(value as u32)
-    }
-
-    // The immediate of eight bits.
-    pub fn of_bits(value: u32) -> Uimm8
-        requires { value < 2 ^ 8 }
-        ensures { result.value ≡ value }
-    {
-        Uimm8 { value }
+        Uimm8::from(value)
     }
 
     pub fn bits(&self) -> u8

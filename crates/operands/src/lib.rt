@@ -5,4 +5,5 @@ pub mod distances;
 pub mod generate;
 pub mod imms;
 pub mod masking;
+pub mod range;
 pub mod regs;

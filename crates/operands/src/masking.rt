@@ -8,16 +8,25 @@ pub enum VecOpMasking {
     Disabled,
 }
 
+// Bit 25 of the word.
+impl From<VecOpMasking> for u32 {
+    ghost from_gives = { λ m n. n ≡ mask_bit m };
+
+    fn from(m: VecOpMasking) -> u32 {
+        match m {
+            VecOpMasking::Enabled => 0,
+            VecOpMasking::Disabled => 1,
+        }
+    }
+}
+
 impl VecOpMasking {
     // Bit 25 of the word.
     pub fn encode(&self) -> u32
         ensures is { result ≡ mask_bit self.now }
         ensures narrow { result < 2 }
     {
-        match self {
-            VecOpMasking::Enabled => 0,
-            VecOpMasking::Disabled => 1,
-        }
+        u32::from(*self)
     }
 
     // The masking whose bit this is.

@@ -1,6 +1,8 @@
 // Registers.
-ghost use Rattle.std.specs.Prelude.{◌≡◌, ◌+◌, ◌<◌, ◌≤◌, ◌⊎◌, MatchOption};
+ghost use Rattle.std.specs.Prelude.{◌≡◌, ◌+◌, ◌^◌, ◌<◌, ◌≤◌, ◌⊎◌, MatchOption, MatchResult};
 ghost use Rattle.operands.specs.declared.regs.Class.TheVariants.{Integer, Float, Vector};
+
+use crate::range::OutOfRange;
 
 // The class of a register.
 #[derive(Clone, Copy, PartialEq, Eq, Debug)]
@@ -10,11 +12,35 @@ pub enum Class {
     Vector,
 }
 
-// A register's number, 0 to 31.
-#[derive(Clone, Copy)]
-pub struct RegNum {
+// A register's number as WIDTH bits write it.
+// Stays: a type of its own beside Unsigned, so that no constant is taken for a register's number.
+#[derive(Clone, Copy, PartialEq, Eq, Debug)]
+pub struct Num<const WIDTH: u32> {
     value: u32,
-    ghost ok: { value < 32 },
+    ghost ok: { value < 2 ^ WIDTH },
+}
+
+// A register's number, 0 to 31.
+pub type RegNum = Num<5>;
+
+// A short register's number, 8 to 15, kept as it is written: that number less 8.
+pub type ShortNum = Num<3>;
+
+impl<const WIDTH: u32> Num<WIDTH> {
+    // The number that these bits write.
+    pub fn of_bits(value: u32) -> Num<WIDTH>
+        requires { value < 2 ^ WIDTH }
+        ensures { result.value ≡ value }
+    {
+        Num { value }
+    }
+
+    pub fn value(&self) -> u32
+        ensures is { result ≡ self.now.value }
+        ensures small { result < 2 ^ WIDTH }
+    {
+        self.value
+    }
 }
 
 impl RegNum {
@@ -22,33 +48,11 @@ impl RegNum {
         ensures { MatchOption result (32 ≤ value) (λ n. n.value ≡ value) }
     {
         if value < 32 {
-            Some(RegNum { value })
+            Some(Num { value })
         } else {
             None
         }
     }
-
-    // The number of five bits.
-    pub fn of_bits(value: u32) -> RegNum
-        requires { value < 32 }
-        ensures { result.value ≡ value }
-    {
-        RegNum { value }
-    }
-
-    pub fn value(&self) -> u32
-        ensures is { result ≡ self.now.value }
-        ensures small { result < 32 }
-    {
-        self.value
-    }
-}
-
-// A short register's number, 8 to 15, kept as it is written: that number less 8.
-#[derive(Clone, Copy)]
-pub struct ShortNum {
-    value: u32,
-    ghost ok: { value < 8 },
 }
 
 impl ShortNum {
@@ -57,51 +61,44 @@ impl ShortNum {
         ensures { MatchOption result ((number < 8) ⊎ (16 ≤ number)) (λ n. n.value + 8 ≡ number) }
     {
         if number >= 8 && number < 16 {
-            Some(ShortNum { value: number - 8 })
+            Some(Num { value: number - 8 })
         } else {
             None
         }
     }
-
-    // The short number of three bits.
-    pub fn of_bits(value: u32) -> ShortNum
-        requires { value < 8 }
-        ensures { result.value ≡ value }
-    {
-        ShortNum { value }
-    }
-
-    pub fn value(&self) -> u32
-        ensures is { result ≡ self.now.value }
-        ensures small { result < 8 }
-    {
-        self.value
-    }
 }
 
 // A register: its class and its number.
-#[derive(Clone, Copy)]
-pub struct Reg {
+#[derive(Clone, Copy, PartialEq, Eq, Debug)]
+pub struct Register<const WIDTH: u32> {
     pub class: Class,
-    pub num: RegNum,
+    pub num: Num<WIDTH>,
 }
 
+pub type Reg = Register<5>;
+
 // A register that a short place can name.
-#[derive(Clone, Copy)]
-pub struct ShortReg {
-    pub class: Class,
-    pub num: ShortNum,
+pub type ShortReg = Register<3>;
+
+impl TryFrom<Reg> for ShortReg {
+    type Error = OutOfRange;
+
+    ghost try_from_gives = { λ g r. MatchResult r (λ s. (s.class ≡ g.class) × (s.num.value + 8 ≡ g.num.value)) (λ _. (g.num.value < 8) ⊎ (16 ≤ g.num.value)) };
+
+    fn try_from(reg: Reg) -> Result<ShortReg, OutOfRange> {
+        let num = ShortNum::new(reg.num.value).ok_or(OutOfRange)?;
+        Ok(Register {
+            class: reg.class,
+            num,
+        })
+    }
 }
 
 impl Reg {
     pub fn short(&self) -> Option<ShortReg>
         ensures { MatchOption result ((self.now.num.value < 8) ⊎ (16 ≤ self.now.num.value)) (λ s. (s.class ≡ self.now.class) × (s.num.value + 8 ≡ self.now.num.value)) }
     {
-        let num = ShortNum::new(self.num.value)?;
-        Some(ShortReg {
-            class: self.class,
-            num,
-        })
+        ShortReg::try_from(*self).ok()
     }
 }
 
@@ -109,7 +106,7 @@ fn reg_of(class: Class, enc: u32) -> Option<Reg>
     ensures { MatchOption result (32 ≤ enc) (λ g. (g.class ≡ class) × (g.num.value ≡ enc)) }
 {
     let num = RegNum::new(enc)?;
-    Some(Reg { class, num })
+    Some(Register { class, num })
 }
 
 pub fn x_reg(enc: u32) -> Option<Reg>
@@ -130,24 +127,28 @@ pub fn v_reg(enc: u32) -> Option<Reg>
     reg_of(Class::Vector, enc)
 }
 
+fn integer_reg(number: u32) -> Reg
+    requires { number < 32 }
+    ensures { (result.class ≡ Integer) × (result.num.value ≡ number) }
+{
+    Register {
+        class: Class::Integer,
+        num: Num { value: number },
+    }
+}
+
 // x0
 pub fn zero_reg() -> Reg
     ensures { (result.class ≡ Integer) × (result.num.value ≡ 0) }
 {
-    Reg {
-        class: Class::Integer,
-        num: RegNum { value: 0 },
-    }
+    integer_reg(0)
 }
 
 // x2
 pub fn stack_reg() -> Reg
     ensures { (result.class ≡ Integer) × (result.num.value ≡ 2) }
 {
-    Reg {
-        class: Class::Integer,
-        num: RegNum { value: 2 },
-    }
+    integer_reg(2)
 }
 
 // The five bits that name the register.

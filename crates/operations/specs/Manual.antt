@@ -1,5 +1,5 @@
 -- The operations as the manuals list them: the unprivileged manual's base set and C extension, Zcb, Vector 1.0 and Zvbb.
-use Rattle.std.specs.Prelude.{ℕ, Bool, true, false, List, [], ◌∷◌, codes, slice_index_or}
+use Rattle.std.specs.Prelude.{ℕ, Bool, true, false, List, [], ◌∷◌, Some, None, Option, codes, slice_index_or}
 use Rattle.bits.specs.declared.part.Values.{Values}
 use Rattle.bits.specs.Layout.{mask, bits}
 use Rattle.formats.specs.declared.kind.Kind.{Kind}
@@ -8,12 +8,13 @@ use Rattle.formats.specs.Layouts.{layout}
 use Rattle.operands.specs.declared.regs.Class.TheVariants.{Integer, Float, Vector}
 use Rattle.operations.specs.declared.row.Except.TheVariants.{Nothing, Zero, ZeroAndTwo}
 use Rattle.operations.specs.declared.row.Use.{Use}
-use Rattle.operations.specs.declared.row.Use.TheVariants.{Absent, Full, Short}
+use Rattle.operations.specs.declared.row.Use.TheVariants.{Full, Short}
+use Rattle.operations.specs.declared.row.Allowed.{Allowed}
 use Rattle.operations.specs.declared.row.Allowed.TheVariants.{All, NonZero, GroupSize}
 use Rattle.operations.specs.declared.row.Number.{Number}
-use Rattle.operations.specs.declared.row.Number.TheVariants.{NoNumber, Signed, Unsigned}
+use Rattle.operations.specs.declared.row.Number.TheVariants.{Signed, Unsigned}
 use Rattle.operations.specs.declared.row.Masking.{Masking}
-use Rattle.operations.specs.declared.row.Masking.TheVariants.{NoMask, Free, Always, Never}
+use Rattle.operations.specs.declared.row.Masking.TheVariants.{Free, Always, Never}
 use Rattle.operations.specs.declared.row.Form.{Form}
 use Rattle.operations.specs.declared.row.Row.{Row}
 
@@ -27,7 +28,7 @@ abbrev pub codes_only : ℕ → ℕ → ℕ → Values
 codes_only oc f3 fu = record { d = 0; a = 0; b = 0; n = 0; m = 0; opcode = oc; funct3 = f3; funct = fu }
 
 -- the fixed bits follow from the format's layout and the codes
-abbrev operation : List ℕ → Kind → ℕ → ℕ → ℕ → Use → Use → Use → Number → Masking → Bool → Bool → Entry
+abbrev operation : List ℕ → Kind → ℕ → ℕ → ℕ → Option Use → Option Use → Option Use → Option Number → Option Masking → Bool → Bool → Entry
 operation nm k oc f3 fu rd rs1 rs2 imm vm src v0 =
     record {
       name = nm;
@@ -50,53 +51,61 @@ operation nm k oc f3 fu rd rs1 rs2 imm vm src v0 =
 
 -- ---- registers: any integer or float register, an integer one but 0, a vector register, and the short ones 8 to 15
 
-abbrev x : Use
-x = Full Integer Nothing
+abbrev x : Option Use
+x = Some (Full Integer Nothing)
 
-abbrev f : Use
-f = Full Float Nothing
+abbrev f : Option Use
+f = Some (Full Float Nothing)
 
-abbrev x_nonzero : Use
-x_nonzero = Full Integer Zero
+abbrev x_nonzero : Option Use
+x_nonzero = Some (Full Integer Zero)
 
-abbrev v : Use
-v = Full Vector Nothing
+abbrev v : Option Use
+v = Some (Full Vector Nothing)
 
-abbrev xc : Use
-xc = Short Integer
+abbrev xc : Option Use
+xc = Some (Short Integer)
 
-abbrev fc : Use
-fc = Short Float
+abbrev fc : Option Use
+fc = Some (Short Float)
+
+-- ---- constants: how many bits they have in units, the unit, and which numbers are allowed
+
+abbrev pub signed : ℕ → ℕ → Allowed → Option Number
+signed k u w = Some (Signed k u w)
+
+abbrev pub unsigned : ℕ → ℕ → Allowed → Option Number
+unsigned k u w = Some (Unsigned k u w)
 
 -- ---- scalars
 
-abbrev scalar : List ℕ → Kind → ℕ → ℕ → ℕ → Use → Use → Use → Number → Entry
-scalar nm k oc f3 f7 rd rs1 rs2 imm = operation nm k oc f3 f7 rd rs1 rs2 imm NoMask false false
+abbrev scalar : List ℕ → Kind → ℕ → ℕ → ℕ → Option Use → Option Use → Option Use → Option Number → Entry
+scalar nm k oc f3 f7 rd rs1 rs2 imm = operation nm k oc f3 f7 rd rs1 rs2 imm None false false
 
 -- OP: rd, rs1, rs2; funct3 and funct7 tell which
 abbrev register : List ℕ → ℕ → ℕ → Entry
-register nm f3 f7 = scalar nm R 51 f3 f7 x x x NoNumber
+register nm f3 f7 = scalar nm R 51 f3 f7 x x x None
 
 -- OP-IMM: rd, rs1 and a constant of 12 bits; funct3 tells which
 abbrev constant : List ℕ → ℕ → Entry
-constant nm f3 = scalar nm I 19 f3 0 x x Absent (Signed 12 1 All)
+constant nm f3 = scalar nm I 19 f3 0 x x None (signed 12 1 All)
 
 -- LOAD: rd from rs1 plus an offset
 abbrev load : List ℕ → ℕ → Entry
-load nm f3 = scalar nm I 3 f3 0 x x Absent (Signed 12 1 All)
+load nm f3 = scalar nm I 3 f3 0 x x None (signed 12 1 All)
 
 -- STORE: rs2 to rs1 plus an offset
 abbrev store : List ℕ → ℕ → Entry
-store nm f3 = scalar nm S 35 f3 0 Absent x x (Signed 12 1 All)
+store nm f3 = scalar nm S 35 f3 0 None x x (signed 12 1 All)
 
 -- BRANCH: by rs1 and rs2, to an even distance
 abbrev branch : List ℕ → ℕ → Entry
-branch nm f3 = scalar nm B 99 f3 0 Absent x x (Signed 12 2 All)
+branch nm f3 = scalar nm B 99 f3 0 None x x (signed 12 2 All)
 
 -- ---- vectors: OP-V; funct3 is the category, funct6 tells which. A masked one may not write v0
 
-abbrev vector : List ℕ → ℕ → ℕ → Use → Entry
-vector nm f3 f6 vs1 = operation nm V 87 f3 f6 v vs1 v NoNumber Free false true
+abbrev vector : List ℕ → ℕ → ℕ → Option Use → Entry
+vector nm f3 f6 vs1 = operation nm V 87 f3 f6 v vs1 v None (Some Free) false true
 
 -- OPIVV, OPFVV, OPMVV, OPIVX, OPFVF, OPMVX
 abbrev ivv : List ℕ → ℕ → Entry
@@ -118,20 +127,20 @@ abbrev mvx : List ℕ → ℕ → Entry
 mvx nm f6 = vector nm 6 f6 x
 
 -- OPIVI, with a signed or an unsigned constant
-abbrev with_constant : List ℕ → ℕ → Number → Masking → Entry
-with_constant nm f6 imm vm = operation nm VImm 87 3 f6 v Absent v imm vm false true
+abbrev with_constant : List ℕ → ℕ → Option Number → Option Masking → Entry
+with_constant nm f6 imm vm = operation nm VImm 87 3 f6 v None v imm vm false true
 
 abbrev ivi : List ℕ → ℕ → Entry
-ivi nm f6 = with_constant nm f6 (Signed 5 1 All) Free
+ivi nm f6 = with_constant nm f6 (signed 5 1 All) (Some Free)
 
 abbrev uvi : List ℕ → ℕ → Entry
-uvi nm f6 = with_constant nm f6 (Unsigned 5 1 All) Free
+uvi nm f6 = with_constant nm f6 (unsigned 5 1 All) (Some Free)
 
 -- vmv<nr>r: the constant is the number of registers less 1
 abbrev vmvr : List ℕ → ℕ → Entry
-vmvr nm f6 = with_constant nm f6 (Unsigned 5 1 GroupSize) Never
+vmvr nm f6 = with_constant nm f6 (unsigned 5 1 GroupSize) (Some Never)
 
-abbrev changed : Entry → Masking → Bool → Bool → Entry
+abbrev changed : Entry → Option Masking → Bool → Bool → Entry
 changed e vm src v0 =
     operation e.name e.form.kind e.form.opcode e.form.funct3 e.form.funct e.form.d e.form.a e.form.b e.form.n vm src v0
 
@@ -145,32 +154,32 @@ apart e = changed e e.form.m true e.form.forbids.mask
 
 -- it is always masked, or never
 abbrev always : Entry → Entry
-always e = changed e Always e.form.forbids.sources e.form.forbids.mask
+always e = changed e (Some Always) e.form.forbids.sources e.form.forbids.mask
 
 abbrev never : Entry → Entry
-never e = changed e Never e.form.forbids.sources e.form.forbids.mask
+never e = changed e (Some Never) e.form.forbids.sources e.form.forbids.mask
 
 -- unit-stride loads and stores; funct3 is the width. A masked load may not write v0
 abbrev vload : List ℕ → ℕ → Entry
-vload nm f3 = operation nm VMem 7 f3 0 v x Absent NoNumber Free false true
+vload nm f3 = operation nm VMem 7 f3 0 v x None None (Some Free) false true
 
 abbrev vstore : List ℕ → ℕ → Entry
-vstore nm f3 = operation nm VMem 39 f3 0 v x Absent NoNumber Free false false
+vstore nm f3 = operation nm VMem 39 f3 0 v x None None (Some Free) false false
 
 -- ---- compressed: quadrant, funct3, and the funct of the formats that have one
 
-abbrev short : List ℕ → Kind → ℕ → ℕ → ℕ → Use → Use → Use → Number → Entry
-short nm k oc f3 fu rd rs1 rs2 imm = operation nm k oc f3 fu rd rs1 rs2 imm NoMask false false
+abbrev short : List ℕ → Kind → ℕ → ℕ → ℕ → Option Use → Option Use → Option Use → Option Number → Entry
+short nm k oc f3 fu rd rs1 rs2 imm = operation nm k oc f3 fu rd rs1 rs2 imm None false false
 
 abbrev cr : List ℕ → ℕ → Entry
-cr nm f4 = short nm Cr 2 0 f4 x_nonzero Absent x_nonzero NoNumber
+cr nm f4 = short nm Cr 2 0 f4 x_nonzero None x_nonzero None
 
 abbrev cr2 : List ℕ → ℕ → Entry
-cr2 nm f4 = short nm Cr2 2 0 f4 Absent x_nonzero Absent NoNumber
+cr2 nm f4 = short nm Cr2 2 0 f4 None x_nonzero None None
 
 -- funct6 and funct2
 abbrev ca : List ℕ → ℕ → ℕ → Entry
-ca nm f6 f2 = short nm Ca 1 f2 f6 xc Absent xc NoNumber
+ca nm f6 f2 = short nm Ca 1 f2 f6 xc None xc None
 
 unfoldable pub operations : List Entry
 operations =
@@ -201,9 +210,9 @@ operations =
     ∷ store (codes "sh") 1
     ∷ store (codes "sw") 2
     ∷ store (codes "sd") 3
-    ∷ scalar (codes "jalr") I 103 0 0 x x Absent (Signed 12 1 All)
-    ∷ scalar (codes "lui") U 55 0 0 x Absent Absent (Signed 20 1 All)
-    ∷ scalar (codes "jal") J 111 0 0 x Absent Absent (Signed 20 2 All)
+    ∷ scalar (codes "jalr") I 103 0 0 x x None (signed 12 1 All)
+    ∷ scalar (codes "lui") U 55 0 0 x None None (signed 20 1 All)
+    ∷ scalar (codes "jal") J 111 0 0 x None None (signed 20 2 All)
     ∷ branch (codes "beq") 0
     ∷ branch (codes "bne") 1
     ∷ branch (codes "blt") 4
@@ -376,7 +385,7 @@ operations =
     ∷ cr2 (codes "CJr") 8
     ∷ cr (codes "CAdd") 9
     ∷ cr2 (codes "CJalr") 9
-    ∷ short (codes "CEbreak") CrBare 2 0 9 Absent Absent Absent NoNumber
+    ∷ short (codes "CEbreak") CrBare 2 0 9 None None None None
     ∷ ca (codes "CAnd") 35 3
     ∷ ca (codes "COr") 35 2
     ∷ ca (codes "CXor") 35 1
@@ -384,36 +393,36 @@ operations =
     ∷ ca (codes "CAddw") 39 1
     ∷ ca (codes "CSubw") 39 0
     ∷ ca (codes "CMul") 39 2
-    ∷ short (codes "CJ") Cj 1 5 0 Absent Absent Absent (Signed 11 2 All)
-    ∷ short (codes "CAddi") Ci 1 0 0 x_nonzero Absent Absent (Signed 6 1 NonZero)
-    ∷ short (codes "CSlli") Ci 2 0 0 x_nonzero Absent Absent (Unsigned 6 1 NonZero)
-    ∷ short (codes "CAddiw") Ci 1 1 0 x_nonzero Absent Absent (Signed 6 1 All)
-    ∷ short (codes "CFldsp") CiLdsp 2 1 0 f Absent Absent (Unsigned 6 8 All)
-    ∷ short (codes "CLi") Ci 1 2 0 x_nonzero Absent Absent (Signed 6 1 All)
-    ∷ short (codes "CLwsp") CiLwsp 2 2 0 x_nonzero Absent Absent (Unsigned 6 4 All)
-    ∷ short (codes "CAddi16sp") CiAddi16sp 1 3 0 Absent Absent Absent (Signed 6 16 NonZero)
-    ∷ short (codes "CLui") Ci 1 3 0 (Full Integer ZeroAndTwo) Absent Absent (Signed 6 1 NonZero)
-    ∷ short (codes "CLdsp") CiLdsp 2 3 0 x_nonzero Absent Absent (Unsigned 6 8 All)
-    ∷ short (codes "CAddi4spn") Ciw 0 0 0 xc Absent Absent (Unsigned 8 4 NonZero)
-    ∷ short (codes "CSrli") Cb 1 4 0 xc Absent Absent (Unsigned 6 1 NonZero)
-    ∷ short (codes "CSrai") Cb 1 4 1 xc Absent Absent (Unsigned 6 1 NonZero)
-    ∷ short (codes "CAndi") Cb 1 4 2 xc Absent Absent (Signed 6 1 All)
-    ∷ short (codes "CFsdsp") CssDouble 2 5 0 Absent Absent f (Unsigned 6 8 All)
-    ∷ short (codes "CSwsp") CssWord 2 6 0 Absent Absent x (Unsigned 6 4 All)
-    ∷ short (codes "CSdsp") CssDouble 2 7 0 Absent Absent x (Unsigned 6 8 All)
-    ∷ short (codes "CFsd") CsDouble 0 5 0 Absent xc fc (Unsigned 5 8 All)
-    ∷ short (codes "CSw") CsWord 0 6 0 Absent xc xc (Unsigned 5 4 All)
-    ∷ short (codes "CSd") CsDouble 0 7 0 Absent xc xc (Unsigned 5 8 All)
-    ∷ short (codes "CFld") ClDouble 0 1 0 fc xc Absent (Unsigned 5 8 All)
-    ∷ short (codes "CLw") ClWord 0 2 0 xc xc Absent (Unsigned 5 4 All)
-    ∷ short (codes "CLd") ClDouble 0 3 0 xc xc Absent (Unsigned 5 8 All)
+    ∷ short (codes "CJ") Cj 1 5 0 None None None (signed 11 2 All)
+    ∷ short (codes "CAddi") Ci 1 0 0 x_nonzero None None (signed 6 1 NonZero)
+    ∷ short (codes "CSlli") Ci 2 0 0 x_nonzero None None (unsigned 6 1 NonZero)
+    ∷ short (codes "CAddiw") Ci 1 1 0 x_nonzero None None (signed 6 1 All)
+    ∷ short (codes "CFldsp") CiLdsp 2 1 0 f None None (unsigned 6 8 All)
+    ∷ short (codes "CLi") Ci 1 2 0 x_nonzero None None (signed 6 1 All)
+    ∷ short (codes "CLwsp") CiLwsp 2 2 0 x_nonzero None None (unsigned 6 4 All)
+    ∷ short (codes "CAddi16sp") CiAddi16sp 1 3 0 None None None (signed 6 16 NonZero)
+    ∷ short (codes "CLui") Ci 1 3 0 (Some (Full Integer ZeroAndTwo)) None None (signed 6 1 NonZero)
+    ∷ short (codes "CLdsp") CiLdsp 2 3 0 x_nonzero None None (unsigned 6 8 All)
+    ∷ short (codes "CAddi4spn") Ciw 0 0 0 xc None None (unsigned 8 4 NonZero)
+    ∷ short (codes "CSrli") Cb 1 4 0 xc None None (unsigned 6 1 NonZero)
+    ∷ short (codes "CSrai") Cb 1 4 1 xc None None (unsigned 6 1 NonZero)
+    ∷ short (codes "CAndi") Cb 1 4 2 xc None None (signed 6 1 All)
+    ∷ short (codes "CFsdsp") CssDouble 2 5 0 None None f (unsigned 6 8 All)
+    ∷ short (codes "CSwsp") CssWord 2 6 0 None None x (unsigned 6 4 All)
+    ∷ short (codes "CSdsp") CssDouble 2 7 0 None None x (unsigned 6 8 All)
+    ∷ short (codes "CFsd") CsDouble 0 5 0 None xc fc (unsigned 5 8 All)
+    ∷ short (codes "CSw") CsWord 0 6 0 None xc xc (unsigned 5 4 All)
+    ∷ short (codes "CSd") CsDouble 0 7 0 None xc xc (unsigned 5 8 All)
+    ∷ short (codes "CFld") ClDouble 0 1 0 fc xc None (unsigned 5 8 All)
+    ∷ short (codes "CLw") ClWord 0 2 0 xc xc None (unsigned 5 4 All)
+    ∷ short (codes "CLd") ClDouble 0 3 0 xc xc None (unsigned 5 8 All)
     ∷ []
 
 abbrev pub count : ℕ
 count = 233
 
 abbrev pub no_entry : Entry
-no_entry = scalar [] R 0 0 0 Absent Absent Absent NoNumber
+no_entry = scalar [] R 0 0 0 None None None None
 
 abbrev pub form_at : ℕ → Form
 form_at k = (slice_index_or operations k no_entry).form

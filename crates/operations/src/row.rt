@@ -1,8 +1,11 @@
 // What the table says of an operation.
+ghost use Rattle.std.specs.Prelude.{◌≡◌};
+ghost use Rattle.operations.specs.Permitted.{permits, allows};
+
 use formats::kind::Kind;
 use operands::regs::Class;
 
-// Numbers that a register field may not have.
+// Numbers that a register field may not have. Stays an enum of three: Nothing is one of the answers, and no field lacks one.
 #[derive(Clone, Copy)]
 pub enum Except {
     Nothing,
@@ -10,10 +13,22 @@ pub enum Except {
     ZeroAndTwo,
 }
 
-// How an operation uses a register field: not at all, one of 0 to 31, or one of 8 to 15.
+impl Except {
+    // Whether the field may have that number.
+    pub fn permits(self, number: u64) -> bool
+        ensures { result ≡ permits self number }
+    {
+        match self {
+            Except::Nothing => true,
+            Except::Zero => number != 0,
+            Except::ZeroAndTwo => number != 0 && number != 2,
+        }
+    }
+}
+
+// How an operation uses a register field: one of 0 to 31, or one of 8 to 15.
 #[derive(Clone, Copy)]
 pub enum Use {
-    Absent,
     Full(Class, Except),
     Short(Class),
 }
@@ -26,19 +41,37 @@ pub enum Allowed {
     GroupSize,
 }
 
-// How an operation uses the constant: not at all, or as a multiple of a unit that in units has so many bits.
+impl Allowed {
+    // Whether the constant may be that number.
+    pub fn allows(self, n: i64) -> bool
+        ensures { result ≡ allows self n }
+    {
+        match self {
+            Allowed::All => true,
+            Allowed::NonZero => n != 0,
+            Allowed::GroupSize => matches!(n, 0 | 1 | 3 | 7),
+        }
+    }
+}
+
+// How an operation uses the constant: as a multiple of the unit that in units has `width` bits.
 #[derive(Clone, Copy)]
 pub enum Number {
-    NoNumber,
-    // width, unit, which numbers
-    Signed(u32, u32, Allowed),
-    Unsigned(u32, u32, Allowed),
+    Signed {
+        width: u32,
+        unit: u32,
+        allowed: Allowed,
+    },
+    Unsigned {
+        width: u32,
+        unit: u32,
+        allowed: Allowed,
+    },
 }
 
 // How an operation uses the mask bit.
 #[derive(Clone, Copy)]
 pub enum Masking {
-    NoMask,
     Free,
     Always,
     Never,
@@ -61,11 +94,12 @@ pub struct Form {
     // ones at the bits that the operation fixes, and those bits
     pub mask: u32,
     pub bits: u32,
-    pub d: Use,
-    pub a: Use,
-    pub b: Use,
-    pub n: Number,
-    pub m: Masking,
+    // a field that the operation does not use has none
+    pub d: Option<Use>,
+    pub a: Option<Use>,
+    pub b: Option<Use>,
+    pub n: Option<Number>,
+    pub m: Option<Masking>,
     pub forbids: Forbids,
 }
 

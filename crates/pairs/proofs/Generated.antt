@@ -1,13 +1,12 @@
 -- What generate_imm answers, as a number's high and low part.
 use Rattle.std.proofs.Common.{◌≡◌, Bool, true, false, ℤ, sym, refl, ap, ◌∙◌, ap₂}
 use Rattle.operands.specs.Ranges.{Makeable, made}
-use Rattle.operands.specs.declared.imms.Imm12.{Imm12}
-use Rattle.operands.specs.declared.imms.Imm20.{Imm20}
+use Rattle.operands.specs.declared.imms.Signed.{Signed}
 use Rattle.pairs.specs.Pairs.{makeable, high_of, low_of, pair_of, pair}
 use Rattle.pairs.proofs.Parts.{makeable_yes, pair_makes}
 
 -- where it answers a pair, the number can be made, and the pair is its two parts
-module _ (v : ℤ) (h : Imm20) (l : Imm12) (e : made h.value l.value ≡ v) where
+module _ (v : ℤ) (h : Signed 20) (l : Signed 12) (e : made h.value l.value ≡ v) where
   pub generated_makeable : makeable v ≡ true
   generated_makeable = ap makeable (sym e) ∙ pair_makes.made_is h.value l.value h.ok l.ok
 

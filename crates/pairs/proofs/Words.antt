@@ -1,5 +1,5 @@
 -- The two instructions of a pair and their words.
-use Rattle.std.proofs.Common.{◌≡◌, ℕ, suc, ◌+◌, ◌-◌, ◌*◌, ◌/◌, ◌%◌, ◌<◌, true, false, [], ◌∷◌, ◌++◌, length, ℤ, pos, negsuc, nat_abs, sym, refl, ap, ◌∙◌, subst, ap₂, div-add-mod', arith}
+use Rattle.std.proofs.Common.{◌≡◌, ℕ, suc, ◌+◌, ◌-◌, ◌*◌, ◌/◌, ◌%◌, ◌<◌, true, false, [], ◌∷◌, ◌++◌, length, Some, None, ℤ, pos, negsuc, nat_abs, sym, refl, ap, ◌∙◌, subst, ap₂, div-add-mod', arith}
 use Rattle.std.proofs.lemmas.Bool.Decides.{nat_tests}
 use Rattle.std.proofs.lemmas.Int.{ints}
 use Rattle.bits.specs.Layout.{mask, bits}
@@ -10,9 +10,8 @@ use Rattle.operands.specs.declared.regs.Class.TheVariants.{Integer}
 use Rattle.operands.specs.Ranges.{Within12, Within20, made}
 use Rattle.operations.specs.declared.row.Except.TheVariants.{Nothing}
 use Rattle.operations.specs.declared.row.Allowed.TheVariants.{All}
-use Rattle.operations.specs.declared.row.Use.TheVariants.{Absent, Full}
+use Rattle.operations.specs.declared.row.Use.TheVariants.{Full}
 use Rattle.operations.specs.declared.row.Number.TheVariants.{Signed}
-use Rattle.operations.specs.declared.row.Masking.TheVariants.{NoMask}
 use Rattle.operations.specs.declared.row.Form.{Form}
 use Rattle.operations.specs.Manual.{operations, form_at, codes_only}
 use Rattle.instructions.specs.declared.fields.Fields.{Fields}
@@ -39,11 +38,11 @@ lui_form = record {
   funct = 0;
   mask = mask (layout U);
   bits = bits (layout U) (codes_only 55 0 0);
-  d = Full Integer Nothing;
-  a = Absent;
-  b = Absent;
-  n = Signed 20 1 All;
-  m = NoMask;
+  d = Some (Full Integer Nothing);
+  a = None;
+  b = None;
+  n = Some (Signed 20 1 All);
+  m = None;
   forbids = record { sources = false; mask = false };
 }
 
@@ -55,11 +54,11 @@ addi_form = record {
   funct = 0;
   mask = mask (layout I);
   bits = bits (layout I) (codes_only 19 0 0);
-  d = Full Integer Nothing;
-  a = Full Integer Nothing;
-  b = Absent;
-  n = Signed 12 1 All;
-  m = NoMask;
+  d = Some (Full Integer Nothing);
+  a = Some (Full Integer Nothing);
+  b = None;
+  n = Some (Signed 12 1 All);
+  m = None;
   forbids = record { sources = false; mask = false };
 }
 
@@ -79,20 +78,17 @@ addi_word rd l = word_of (form_at addi_place) (addi_fields rd l)
 
 -- ---- lawful
 
-register_in : (rd : ℤ) → holds_number rd ≡ true → InUse (Full Integer Nothing) rd
+register_in : (rd : ℤ) → holds_number rd ≡ true → InUse (Some (Full Integer Nothing)) rd
 register_in (pos x) t = grind (arith, nat_tests)
-register_in (negsuc x) t = absurd (let z : ◌≡◌ {A = ℕ} 0 1 = cc in omega arith)
+register_in (negsuc x) t = cc
 
-high_in : (z : ℤ) → Within20 z → InRange (Signed 20 1 All) z
+high_in : (z : ℤ) → Within20 z → InRange (Some (Signed 20 1 All)) z
 high_in (pos n) w = (omega (arith, ints), omega (arith, ints))
 high_in (negsuc n) w = (omega (arith, ints), omega (arith, ints))
 
-low_in : (z : ℤ) → Within12 z → InRange (Signed 12 1 All) z
+low_in : (z : ℤ) → Within12 z → InRange (Some (Signed 12 1 All)) z
 low_in (pos n) w = (omega (arith, ints), omega (arith, ints))
 low_in (negsuc n) w = (omega (arith, ints), omega (arith, ints))
-
-never : (P : Type 0) → false ≡ true → P
-never P t = absurd (let z : ◌≡◌ {A = ℕ} 0 1 = cc in omega arith)
 
 pub lui_lawful : (rd h : ℤ) → holds_number rd ≡ true → Within20 h → lawful (form_at lui_place) (lui_fields rd h) ≡ true
 lui_lawful rd h r w =
@@ -108,9 +104,9 @@ lui_lawful rd h r w =
       a_takes = tt;
       b_takes = tt;
       n_takes = tt;
-      d_not_b = λ t e. never ⊥ t;
-      d_not_a = λ t v e. never ⊥ t;
-      d_not_v0 = λ t m e. never ⊥ t;
+      d_not_b = λ t e. cc;
+      d_not_a = λ t v e. cc;
+      d_not_v0 = λ t m e. cc;
     }))
 
 pub addi_lawful : (rd l : ℤ) → holds_number rd ≡ true → Within12 l → lawful (form_at addi_place) (addi_fields rd l) ≡ true
@@ -127,9 +123,9 @@ addi_lawful rd l r w =
       a_takes = tt;
       b_takes = tt;
       n_takes = tt;
-      d_not_b = λ t e. never ⊥ t;
-      d_not_a = λ t v e. never ⊥ t;
-      d_not_v0 = λ t m e. never ⊥ t;
+      d_not_b = λ t e. cc;
+      d_not_a = λ t v e. cc;
+      d_not_v0 = λ t m e. cc;
     }))
 
 pub lui_size : size (form_at lui_place).kind ≡ 2
@@ -144,21 +140,21 @@ addi_size = ap (λ (f : Form). size f.kind) addi_at
 pub pair_words : (rd h l : ℤ) → pair_of rd h l ≡ lui_word rd h % 65536 ∷ lui_word rd h / 65536 ∷ addi_word rd l % 65536 ∷ addi_word rd l / 65536 ∷ []
 pair_words rd h l = ap₂ (λ m n. halves m (lui_word rd h) ++ halves n (addi_word rd l)) lui_size addi_size
 
-upper_bits : (rd h : ℤ) → lui_word rd h / 4096 % 1048576 ≡ raw_number (Signed 20 1 All) h % 1048576
+upper_bits : (rd h : ℤ) → lui_word rd h / 4096 % 1048576 ≡ raw_number (Some (Signed 20 1 All)) h % 1048576
 upper_bits rd h = ap (λ (f : Form). word_of f (lui_fields rd h) / 4096 % 1048576) lui_at ∙ omega arith
 
 -- the twelve bits above funct3 and the rest
 over : (n s d x : ℕ) → n < 4096 → s < 32 → d < 32 → x ≡ ((((0 + n) * 32 + s) * 8 + 0) * 32 + d) * 128 + 19 → x / 1048576 % 4096 ≡ n
 over n s d x hn hs hd e = let t : x / 1048576 ≡ n = omega arith in omega arith
 
-lower_bits : (rd l : ℤ) → addi_word rd l / 1048576 % 4096 ≡ raw_number (Signed 12 1 All) l % 4096
-lower_bits rd l = ap (λ (f : Form). word_of f (addi_fields rd l) / 1048576 % 4096) addi_at ∙ over (raw_number (Signed 12 1 All) l / 1 % 4096) (nat_abs rd / 1 % 32) (nat_abs rd / 1 % 32) (word_of addi_form (addi_fields rd l)) (omega arith) (omega arith) (omega arith) refl ∙ omega arith
+lower_bits : (rd l : ℤ) → addi_word rd l / 1048576 % 4096 ≡ raw_number (Some (Signed 12 1 All)) l % 4096
+lower_bits rd l = ap (λ (f : Form). word_of f (addi_fields rd l) / 1048576 % 4096) addi_at ∙ over (raw_number (Some (Signed 12 1 All)) l / 1 % 4096) (nat_abs rd / 1 % 32) (nat_abs rd / 1 % 32) (word_of addi_form (addi_fields rd l)) (omega arith) (omega arith) (omega arith) refl ∙ omega arith
 
-high_back : (h : ℤ) → Within20 h → signed 20 (raw_number (Signed 20 1 All) h % 1048576) ≡ h
+high_back : (h : ℤ) → Within20 h → signed 20 (raw_number (Some (Signed 20 1 All)) h % 1048576) ≡ h
 high_back (pos n) w = signed_is 20 (n / 1 % 1048576) (pos n) (λ s. omega (arith, ints)) (λ s. omega (arith, ints))
 high_back (negsuc n) w = signed_is 20 ((1048576 - suc n / 1) % 1048576) (negsuc n) (λ s. omega (arith, ints)) (λ s. omega (arith, ints))
 
-low_back : (l : ℤ) → Within12 l → signed 12 (raw_number (Signed 12 1 All) l % 4096) ≡ l
+low_back : (l : ℤ) → Within12 l → signed 12 (raw_number (Some (Signed 12 1 All)) l % 4096) ≡ l
 low_back (pos n) w = signed_is 12 (n / 1 % 4096) (pos n) (λ s. omega (arith, ints)) (λ s. omega (arith, ints))
 low_back (negsuc n) w = signed_is 12 ((4096 - suc n / 1) % 4096) (negsuc n) (λ s. omega (arith, ints)) (λ s. omega (arith, ints))
 

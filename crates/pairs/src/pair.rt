@@ -1,5 +1,5 @@
 // The pair lui d, high and addi d, d, low.
-ghost use Rattle.std.specs.Prelude.{◌≡◌, ◌/◌, ◌%◌, ◌++◌};
+ghost use Rattle.std.specs.Prelude.{◌≡◌, ◌++◌};
 ghost use Rattle.formats.specs.Layouts.{size};
 ghost use Rattle.operations.specs.Manual.{form_at};
 ghost use Rattle.instructions.specs.Words.{halfwords_in, halfwords_of};
@@ -8,9 +8,11 @@ ghost use Rattle.pairs.specs.Pairs.{lui_place, addi_place, lui_fields, addi_fiel
 use crate::register::PairRegister;
 use instructions::fields::Fields;
 use instructions::instruction::Instruction;
-use instructions::word::word_of;
+use instructions::word::{Halfwords, halfwords_of};
 use operands::imms::{Imm12, Imm20};
 use operations::operation::Operation;
+
+// Stay numbers: a look-up by name would answer an Option, and the contracts say whose places these are.
 
 // The operation lui, by its place in the table.
 fn lui() -> Operation
@@ -33,7 +35,7 @@ fn lui_fields(register: PairRegister, high: Imm20) -> Fields
         d: register.number(),
         a: 0,
         b: 0,
-        n: high.as_i32() as i64,
+        n: i64::from(high),
         m: 0,
     }
 }
@@ -45,7 +47,7 @@ fn addi_fields(register: PairRegister, low: Imm12) -> Fields
         d: register.number(),
         a: register.number(),
         b: 0,
-        n: low.as_i16() as i64,
+        n: i64::from(low),
         m: 0,
     }
 }
@@ -66,27 +68,16 @@ fn lower_of(register: PairRegister, low: Imm12) -> Instruction
     Instruction::of(addi(), addi_fields(register, low))
 }
 
-fn low_half(w: u32) -> u16
-    ensures { result ≡ w % 65536 }
-{
-    (w % 65536) as u16
-}
-
-fn high_half(w: u32) -> u16
-    ensures { result ≡ w / 65536 }
-{
-    (w >> 16) as u16
-}
-
 // The halfwords of two instructions that have two each.
 fn four_of(upper: &Instruction, lower: &Instruction) -> [u16; 4]
     requires upper { size (form_at upper.now.op.place).kind ≡ 2 }
     requires lower { size (form_at lower.now.op.place).kind ≡ 2 }
     ensures { result ≡ halfwords_in upper.now ++ halfwords_in lower.now }
 {
-    let u = word_of(upper);
-    let l = word_of(lower);
-    [low_half(u), high_half(u), low_half(l), high_half(l)]
+    match (halfwords_of(upper), halfwords_of(lower)) {
+        (Halfwords::Two(a, b), Halfwords::Two(c, e)) => [a, b, c, e],
+        _ => unreachable!(),
+    }
 }
 
 // The halfwords of lui d, high and addi d, d, low.

@@ -13,7 +13,7 @@ impl PairRegister {
     pub fn new(number: i64) -> Option<PairRegister>
         ensures { MatchOption result (holds_number number ≡ false) (λ p. p.number ≡ number) }
     {
-        if 1 <= number && number <= 31 {
+        if (1..=31).contains(&number) {
             Some(PairRegister { number })
         } else {
             None

@@ -1,13 +1,13 @@
 -- The lines of words.
-use Rattle.std.proofs.Common.{◌≡◌, ℕ, ◌+◌, ◌*◌, ◌%◌, ◌^◌, ◌<◌, ◌≤◌, true, false, cond, eqb, ◌⊎◌, List, [], ◌∷◌, ◌++◌, length, get_or, take, drop, codes, sym, refl, ap, ◌∙◌, ⊎_elim, arith, length-append, length-drop}
+use Rattle.std.proofs.Common.{◌≡◌, ℕ, ◌+◌, ◌*◌, ◌%◌, ◌^◌, ◌<◌, ◌≤◌, true, false, cond, eqb, ◌⊎◌, List, [], ◌∷◌, ◌++◌, length, get_or, take, drop, codes, sym, refl, ap, ◌∙◌, ⊎_elim, arith, length-append}
 use Rattle.std.proofs.lemmas.List.{append-nil, drop_all, drop-drop, drop_more, get_or-take, length-take-le}
 use Rattle.std.proofs.lemmas.Bool.{cond-true, cond-false, cond_both, eq-eqb, ne_eqb}
 use Rattle.text.specs.Decimal.{digits}
 use Rattle.text.specs.Written.{hex}
 use Rattle.text.proofs.Numerals.{length-digits_le}
-use Rattle.text.proofs.Overwritten.{length-hex}
-use Rattle.printing.specs.Printed.{comma, newline, word_row, printed, fault_text}
-use Rattle.printing.specs.Words.{halves_of, word_from, word_at, row_of}
+use Rattle.text.proofs.Hex.{length-hex}
+use Rattle.printing.specs.Printed.{comma, newline, word_row, printed, words_text}
+use Rattle.printing.specs.Words.{halves_of, word_from, word_at, words_from, row_of}
 use Rattle.printing.specs.declared.words.Word.{Word}
 use Rattle.printing.specs.declared.words.Word.TheVariants.{Short, Wide}
 
@@ -21,58 +21,47 @@ pub printed_two : (place x y : ℕ) (hs : List ℕ) → x % 4 ≡ 3 → printed 
 printed_two place x y hs e = cond-true (eqb (x % 4) 3) (word_row place 8 (y * 65536 + x) ++ printed (place + 2) hs) (word_row place 4 x ++ printed (place + 1) (y ∷ hs)) (eq-eqb (x % 4) 3 e)
 
 -- the length of a line
-pub length_row : (place count word : ℕ) → length (word_row place count word) ≡ length (digits (2 * place)) + count + 2
+length_row : (place count word : ℕ) → length (word_row place count word) ≡ length (digits (2 * place)) + count + 2
 length_row place count word =
     let a = digits (2 * place) in
     let h = hex count word in
     omega (arith, length-append (a ++ comma ++ h) newline, length-append (a ++ comma) h, length-append a comma, length-hex count word)
 
--- a fault's text is short
-pub fault_fits : (line number : ℕ) → line < 10 ^ 10 → number < 10 ^ 10 → length (fault_text line number) ≤ 33
-fault_fits line number l n =
-    let h = codes "line,fault" ++ newline in
-    omega (
-      arith,
-      length-append (h ++ digits line ++ comma ++ digits number) newline,
-      length-append (h ++ digits line ++ comma) (digits number),
-      length-append (h ++ digits line) comma,
-      length-append h (digits line),
-      length-digits_le 10 line (omega arith) l,
-      length-digits_le 10 number (omega arith) n,
-    )
+-- a number of 32 bits has at most ten digits
+pub digits_short : (n : ℕ) → n < 2 ^ 32 → length (digits n) ≤ 10
+digits_short n l = length-digits_le 10 n (omega arith) (omega arith)
 
--- the word that stands first, its line, and what follows
-printed_from : (place x : ℕ) (hs : List ℕ) → printed place (x ∷ hs) ≡ row_of place (word_from x hs) ++ printed (place + halves_of (word_from x hs)) (drop (halves_of (word_from x hs)) (x ∷ hs))
-printed_from place x [] = sym (append-nil (word_row place 4 x))
-printed_from place x (y ∷ hs) =
-    elim (eqb (x % 4) 3) as (λ b. cond b (word_row place 8 (y * 65536 + x) ++ printed (place + 2) hs) (word_row place 4 x ++ printed (place + 1) (y ∷ hs)) ≡ row_of place (cond b (Wide (y * 65536 + x)) (Short x)) ++ printed (place + halves_of (cond b (Wide (y * 65536 + x)) (Short x))) (drop (halves_of (cond b (Wide (y * 65536 + x)) (Short x))) (x ∷ (y ∷ hs)))) [
+-- the lines of words
+abbrev pub rows : List (ℕ × Word) → List ℕ
+rows [] = []
+rows (x ∷ xs) = row_of x.0 x.1 ++ rows xs
+
+-- the text of halfwords is the lines of their words
+pub printed_rows : (place : ℕ) (hs : List ℕ) → rows (words_from place hs) ≡ printed place hs
+printed_rows place [] = refl
+printed_rows place (x ∷ []) = append-nil (word_row place 4 x)
+printed_rows place (x ∷ (y ∷ hs)) =
+    elim (eqb (x % 4) 3) as (λ b. rows (cond b ((2 * place, Wide (y * 65536 + x)) ∷ words_from (place + 2) hs) ((2 * place, Short x) ∷ words_from (place + 1) (y ∷ hs))) ≡ cond b (word_row place 8 (y * 65536 + x) ++ printed (place + 2) hs) (word_row place 4 x ++ printed (place + 1) (y ∷ hs))) [
+      | true ↦ ap (λ r. word_row place 8 (y * 65536 + x) ++ r) (printed_rows (place + 2) hs)
+      | false ↦ ap (λ r. word_row place 4 x ++ r) (printed_rows (place + 1) (y ∷ hs))
+    ]
+
+-- the word that stands first, and those that follow
+words_first : (place x : ℕ) (hs : List ℕ) → words_from place (x ∷ hs) ≡ (2 * place, word_from x hs) ∷ words_from (place + halves_of (word_from x hs)) (drop (halves_of (word_from x hs)) (x ∷ hs))
+words_first place x [] = refl
+words_first place x (y ∷ hs) =
+    elim (eqb (x % 4) 3) as (λ b. cond b ((2 * place, Wide (y * 65536 + x)) ∷ words_from (place + 2) hs) ((2 * place, Short x) ∷ words_from (place + 1) (y ∷ hs)) ≡ (2 * place, cond b (Wide (y * 65536 + x)) (Short x)) ∷ words_from (place + halves_of (cond b (Wide (y * 65536 + x)) (Short x))) (drop (halves_of (cond b (Wide (y * 65536 + x)) (Short x))) (x ∷ (y ∷ hs)))) [
       | true ↦ refl
       | false ↦ refl
     ]
 
-word_inside : (x : ℕ) (hs : List ℕ) → (0 < halves_of (word_from x hs)) × (halves_of (word_from x hs) ≤ length (x ∷ hs))
-word_inside x [] = (omega arith, omega arith)
-word_inside x (y ∷ hs) =
-    elim (eqb (x % 4) 3) as (λ b. (0 < halves_of (cond b (Wide (y * 65536 + x)) (Short x))) × (halves_of (cond b (Wide (y * 65536 + x)) (Short x)) ≤ length (x ∷ (y ∷ hs)))) [
-      | true ↦ (omega arith, omega arith)
-      | false ↦ (omega arith, omega arith)
-    ]
-
-module _ (hs : List ℕ) (place : ℕ) (l : place < length hs) where
-  -- the word at a place ends inside the list
-  pub word_ends : (w : Word) → w ≡ word_at hs place → (0 < halves_of w) × (place + halves_of w ≤ length hs)
-  word_ends w e =
-      let x = get_or hs place 0 in
-      let i = word_inside x (drop (place + 1) hs) in
-      let n = ap halves_of e in
-      (omega arith, omega (arith, length-drop (place + 1) hs))
-
-  -- its line, and what follows
-  pub printed_step : (w : Word) → w ≡ word_at hs place → printed place (drop place hs) ≡ row_of place w ++ printed (place + halves_of w) (drop (place + halves_of w) hs)
-  printed_step w e =
-      let v = word_at hs place in
-      let d = drop_more hs place 0 l in
-      ap (printed place) d ∙ printed_from place (get_or hs place 0) (drop (place + 1) hs) ∙ ap (λ r. row_of place v ++ printed (place + halves_of v) r) (ap (drop (halves_of v)) (sym d) ∙ drop-drop (halves_of v) place hs) ∙ ap (λ u. row_of place u ++ printed (place + halves_of u) (drop (place + halves_of u) hs)) (sym e)
+-- the words from a place on: the one there, and those that follow
+pub words_step : (hs : List ℕ) (place address : ℕ) (w : Word) (n : ℕ) → place < length hs → address ≡ 2 * place → w ≡ word_at hs place → n ≡ halves_of w → words_from place (drop place hs) ≡ (address, w) ∷ words_from (place + n) (drop (place + n) hs)
+words_step hs place address w n l ea ew en =
+    let d = drop_more hs place 0 l in
+    let v = word_at hs place in
+    let s = ap (words_from place) d ∙ words_first place (get_or hs place 0) (drop (place + 1) hs) ∙ ap (λ r. (2 * place, v) ∷ words_from (place + halves_of v) r) (ap (drop (halves_of v)) (sym d) ∙ drop-drop (halves_of v) place hs) in
+    cc
 
 word_short : (x : ℕ) (hs : List ℕ) → (x % 4 ≡ 3 → ⊥) → Short x ≡ word_from x hs
 word_short x [] ne = refl
@@ -99,7 +88,7 @@ module _ (all : List ℕ) (used place low : ℕ) (inside : place < used) (stored
       ap (λ v. Wide (v * 65536 + low)) (second ∙ sym (get_or-take used all (place + 1) 0 l)) ∙ ap (λ v. Wide (y * 65536 + v)) kept ∙ sym (ap (word_from x) d ∙ cond-true (eqb (x % 4) 3) (Wide (y * 65536 + x)) (Short x) (eq-eqb (x % 4) 3 (ap (λ v. v % 4) (sym kept) ∙ e)))
 
 -- a line has at most nine bytes for each halfword of its word
-row_short : (place : ℕ) (w : Word) → place < 500 → length (row_of place w) ≤ 5 + 4 * halves_of w
+row_short : (place : ℕ) (w : Word) → place < 500 → length (row_of (2 * place) w) ≤ 5 + 4 * halves_of w
 row_short place (Short x) l = omega (arith, length_row place 4 x, length-digits_le 3 (2 * place) (omega arith) (omega arith))
 row_short place (Wide x) l = omega (arith, length_row place 8 x, length-digits_le 3 (2 * place) (omega arith) (omega arith))
 
@@ -111,3 +100,12 @@ printed_short place (x ∷ (y ∷ hs)) l =
     cond_both (eqb (x % 4) 3) (word_row place 8 (y * 65536 + x) ++ printed (place + 2) hs) (word_row place 4 x ++ printed (place + 1) (y ∷ hs)) (λ t. length t ≤ 9 * length (x ∷ (y ∷ hs)))
     (λ _. omega (arith, length-append (word_row place 8 (y * 65536 + x)) (printed (place + 2) hs), row_short place (Wide (y * 65536 + x)) (omega arith), printed_short (place + 2) hs (omega arith)))
     (λ _. omega (arith, length-append (word_row place 4 x) (printed (place + 1) (y ∷ hs)), row_short place (Short x) (omega arith), printed_short (place + 1) (y ∷ hs) (omega arith)))
+
+-- the whole text
+pub words_short : (hs : List ℕ) → length hs ≤ 256 → length (words_text hs) ≤ 4096
+words_short hs l = omega (arith, length-append (codes "at,word" ++ newline) (printed 0 hs), printed_short 0 hs (omega arith))
+
+-- a line that is still to be written fits
+pub row_fits : (text whole : List ℕ) (address : ℕ) (w : Word) (words rest : List (ℕ × Word)) → text ++ rows words ≡ whole → words ≡ (address, w) ∷ rest → length text + length (row_of address w) ≤ length whole
+row_fits text whole address w words rest e s =
+    omega (arith, ap length e, length-append text (rows words), ap (λ ws. length (rows ws)) s, length-append (row_of address w) (rows rest))

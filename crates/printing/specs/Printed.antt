@@ -9,9 +9,13 @@ comma = 44 ∷ []
 abbrev pub newline : List ℕ
 newline = 10 ∷ []
 
--- the line of a word: its byte address, where the place counts halfwords, and the word in so many hexadecimal digits
+-- the line of a word: its byte address, and the word in so many hexadecimal digits
+abbrev pub line_of : ℕ → ℕ → ℕ → List ℕ
+line_of address count word = digits address ++ comma ++ hex count word ++ newline
+
+-- the line of the word at a place, which counts halfwords
 abbrev pub word_row : ℕ → ℕ → ℕ → List ℕ
-word_row place count word = digits (2 * place) ++ comma ++ hex count word ++ newline
+word_row place count word = line_of (2 * place) count word
 
 -- the lines of the words that stand in a list of halfwords, the first at a place: a halfword whose low two bits are both 1 begins a word of two, low half first; any other is a word of its own, and so is a last one that has no second half
 abbrev pub printed : ℕ → List ℕ → List ℕ

@@ -2,5 +2,4 @@
 #![tactic(auto)]
 
 pub mod faults;
-mod marks;
 pub mod words;

@@ -1,12 +1,11 @@
 // The words of a program as text.
-ghost use Rattle.std.specs.Prelude.{◌≡◌, ◌+◌, ◌*◌, ◌<◌, ◌≤◌, length, take, slice_index};
-ghost use Rattle.text.specs.Written.{overwritten};
-ghost use Rattle.printing.specs.Printed.{printed, words_text};
-ghost use Rattle.printing.specs.Words.{halves_of, digits_of, bits_of, word_at, row_of};
+ghost use Rattle.std.specs.Prelude.{◌≡◌, ◌+◌, ◌*◌, ◌<◌, ◌≤◌, ◌++◌, length, take, drop, slice_index};
+ghost use Rattle.std.specs.Iterator.{YieldsFirst, item_count};
+ghost use Rattle.printing.specs.Printed.{words_text};
+ghost use Rattle.printing.specs.Words.{halves_of, digits_of, bits_of, word_at, words_from, row_of};
 
-use crate::marks::{write_comma, write_newline};
 use store::store::Store;
-use text::writing::{write_bytes, write_decimal, write_hex};
+use text::writing::Text;
 
 // A word of a program: one halfword, or two.
 #[derive(Clone, Copy)]
@@ -47,33 +46,63 @@ impl Word {
     }
 }
 
-// The halfword at a place inside the store.
-fn half_at<S: Store>(store: &S, place: usize) -> u16
-    requires { place < length (S.halfwords store.now) }
-    ensures { result ≡ slice_index (S.halfwords store.now) place }
-{
-    store.get(place).unwrap_or(0)
-}
-
-// Two halfwords as one word, the low one first.
+// Two halfwords as one word, the low one first. Stays: std has no conversion of two numbers.
 fn joined(low: u16, high: u16) -> u32
     ensures { result ≡ high * 65536 + low }
 {
     u32::from(high) * 65536 + u32::from(low)
 }
 
-// The word at a place of the first `used` halfwords.
-fn word_at<S: Store>(store: &S, used: usize, place: usize) -> Word
-    requires inside { place < used }
-    requires stored { used ≤ length (S.halfwords store.now) }
-    ensures { result ≡ word_at (take used (S.halfwords store.now)) place }
-{
-    let low = half_at(store, place);
-    if low % 4 != 3 || place + 1 == used {
-        return Word::Short(low);
+// The words that stand in the first `used` halfwords of a store, from a place on, each behind its
+// byte address.
+#[derive(Drop)]
+struct Words<'a, S: Store> {
+    store: &'a S,
+    used: usize,
+    place: usize,
+    ghost few: { used ≤ 256 },
+    ghost stored: { used ≤ length (S.halfwords store.now) },
+}
+
+impl<S: Store> Words<'_, S> {
+    // The halfword at a place.
+    fn half_at(&self, place: usize) -> u16
+        requires { place < self.now.used }
+        ensures { result ≡ slice_index (S.halfwords self.now.store.now) place }
+    {
+        self.store.get(place).unwrap_or(0)
     }
-    let high = half_at(store, place + 1);
-    Word::Wide(joined(low, high))
+
+    // The word at a place.
+    fn word_at(&self, place: usize) -> Word
+        requires { place < self.now.used }
+        ensures { result ≡ word_at (take self.now.used (S.halfwords self.now.store.now)) place }
+    {
+        let low = self.half_at(place);
+        if low % 4 != 3 || self.used == place + 1 {
+            return Word::Short(low);
+        }
+        let high = self.half_at(place + 1);
+        Word::Wide(joined(low, high))
+    }
+}
+
+impl<S: Store> Iterator for Words<'_, S> {
+    type Item = (u32, Word);
+
+    ghost next_gives = { YieldsFirst (λ w. words_from w.place (drop w.place (take w.used (S.Store.halfwords w.store.now)))) };
+
+    ghost remaining = { item_count (λ w. words_from w.place (drop w.place (take w.used (S.Store.halfwords w.store.now)))) };
+
+    fn next(&mut self) -> Option<(u32, Word)> {
+        let place = self.place;
+        if place >= self.used {
+            return None;
+        }
+        let word = self.word_at(place);
+        self.place += word.halves();
+        Some((address(place), word))
+    }
 }
 
 // The byte address of a place.
@@ -85,57 +114,41 @@ fn address(place: usize) -> u32
 }
 
 // Writes the line of a word.
-fn write_row(out: &mut [u8], at: usize, place: usize, word: Word) -> usize
-    requires low { place < 256 }
-    requires room { at + length (row_of place word) ≤ length out.old }
-    ensures end { result ≡ at + length (row_of place word) }
-    ensures after { out.new ≡ overwritten out.old at (row_of place word) }
+fn write_row(text: &mut Text<4096>, address: u32, word: Word)
+    requires { length text.old + length (row_of address word) ≤ 4096 }
+    ensures { text.new ≡ text.old ++ row_of address word }
 {
-    let first = write_decimal(out, at, address(place));
-    let second = write_comma(out, first);
-    let last = write_hex(out, second, word.bits(), word.digits());
-    write_newline(out, last)
+    text.write_decimal(address);
+    text.write_bytes(b",");
+    text.write_hex(word.bits(), word.digits());
+    text.write_bytes(b"\n");
 }
 
-// Writes the lines of the first `used` halfwords.
-fn write_rows<S: Store>(store: &S, used: usize, out: &mut [u8], at: usize) -> usize
+// The names line, and the lines of the words. Stays apart from `print_words`: the proof of the loop is this function's, so a wrong call there is
+// refused in the source.
+fn write_words<S: Store>(store: &S, used: usize) -> Text<4096>
     requires few { used ≤ 256 }
     requires stored { used ≤ length (S.halfwords store.now) }
-    requires room { at + 9 * used ≤ length out.old }
-    ensures end { result ≡ at + length (printed 0 (take used (S.halfwords store.now))) }
-    ensures after { out.new ≡ overwritten out.old at (printed 0 (take used (S.halfwords store.now))) }
+    ensures { result ≡ words_text (take used (S.halfwords store.now)) }
 {
-    let mut end = at;
-    let mut place = 0;
-    while place < used {
-        let word = word_at(store, used, place);
-        end = write_row(out, end, place, word);
-        place += word.halves();
+    let mut text = Text::new();
+    text.write_bytes(b"at,word\n");
+    let words = Words {
+        store,
+        used,
+        place: 0,
+    };
+    for (address, word) in words {
+        write_row(&mut text, address, word);
     }
-    end
+    text
 }
 
-// Writes the names line, and the lines of the words.
-fn write_words<S: Store>(store: &S, used: usize, out: &mut [u8]) -> usize
+// The text of the words that stand in the first `used` halfwords of a store.
+pub fn print_words<S: Store>(store: &S, used: usize) -> Text<4096>
     requires few { used ≤ 256 }
     requires stored { used ≤ length (S.halfwords store.now) }
-    requires room { 4096 ≤ length out.old }
-    ensures end { result ≡ length (words_text (take used (S.halfwords store.now))) }
-    ensures short { result ≤ 4096 }
-    ensures after { out.new ≡ overwritten out.old 0 (words_text (take used (S.halfwords store.now))) }
+    ensures { result ≡ words_text (take used (S.halfwords store.now)) }
 {
-    let names = write_bytes(out, 0, b"at,word\n");
-    write_rows(store, used, out, names)
-}
-
-// Prints the words that stand in the first `used` halfwords of a store. Answers how many bytes it wrote, from the start of the buffer.
-pub fn print_words<S: Store>(store: &S, used: usize, out: &mut [u8]) -> usize
-    requires few { used ≤ 256 }
-    requires stored { used ≤ length (S.halfwords store.now) }
-    requires room { 4096 ≤ length out.old }
-    ensures end { result ≡ length (words_text (take used (S.halfwords store.now))) }
-    ensures short { result ≤ 4096 }
-    ensures after { out.new ≡ overwritten out.old 0 (words_text (take used (S.halfwords store.now))) }
-{
-    write_words(store, used, out)
+    write_words(store, used)
 }

@@ -5,23 +5,21 @@ use Rattle.instructions.specs.declared.fields.Fields.{Fields}
 use Rattle.instructions.specs.declared.fields.BuildFault.{BuildFault}
 use Rattle.instructions.specs.Faults.{build_fault}
 use Rattle.instructions.specs.Words.{halfwords_of}
-use Rattle.program.specs.declared.counts.Counts.{Counts}
+use Rattle.program.specs.declared.faults.NoRoom.{NoRoom}
 use Rattle.program.specs.declared.faults.EmitFault.{EmitFault}
 use Rattle.program.specs.declared.faults.EmitFault.TheVariants.{Build, Full}
 
-abbrev pub none : Counts
-none = record { used = 0; labels = 0; jumps = 0; slots = 0 }
+-- n halfwords more, behind those used, in a store of that size: taken, or that fault
+abbrev pub spaced : {F : Type 0} → F → ℕ → ℕ → ℕ → Result (Unit {0}) F
+spaced e size used n = cond (nat_le (used + n) size) (Ok tt) (Err e)
 
-abbrev pub more_used : Counts → ℕ → Counts
-more_used c n = record { used = c.used + n; labels = c.labels; jumps = c.jumps; slots = c.slots }
-
--- n halfwords more, behind those used, in a store of that size
-abbrev pub spaced : ℕ → ℕ → ℕ → Result (Unit {0}) EmitFault
-spaced size used n = cond (nat_le (used + n) size) (Ok tt) (Err Full)
+-- a struct without fields has one value
+abbrev pub no_room : NoRoom
+no_room = record {}
 
 -- an instruction with these halfwords
 abbrev pub emitted : ℕ → ℕ → List ℕ → Result (Unit {0}) EmitFault
-emitted size used hs = spaced size used (length hs)
+emitted size used hs = spaced Full size used (length hs)
 
 -- a fault of the fields comes before any of the store
 abbrev pub after_build : Option BuildFault → Result (Unit {0}) EmitFault → Result (Unit {0}) EmitFault

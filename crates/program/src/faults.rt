@@ -6,12 +6,22 @@ ghost use Rattle.program.specs.Numbers.{refusal};
 use instructions::fields::BuildFault;
 use store::store::StoreFault;
 
+// The store ends too soon.
+#[derive(Clone, Copy, PartialEq, Eq, Debug)]
+pub struct NoRoom;
+
 #[derive(Clone, Copy, PartialEq, Eq, Debug)]
 pub enum EmitFault {
-    // there is no such instruction
+    // there is no such instruction, or it is a jump
     Build(BuildFault),
     // the store ends too soon
     Full,
+}
+
+impl From<StoreFault> for NoRoom {
+    fn from(_s: StoreFault) -> NoRoom {
+        NoRoom
+    }
 }
 
 impl From<BuildFault> for EmitFault {
@@ -19,6 +29,14 @@ impl From<BuildFault> for EmitFault {
 
     fn from(b: BuildFault) -> EmitFault {
         EmitFault::Build(b)
+    }
+}
+
+impl From<NoRoom> for EmitFault {
+    ghost from_gives = { λ n e. e ≡ Full };
+
+    fn from(_n: NoRoom) -> EmitFault {
+        EmitFault::Full
     }
 }
 
@@ -31,7 +49,7 @@ impl From<StoreFault> for EmitFault {
 }
 
 impl EmitFault {
-    // The number of the refusal.
+    // The number of the refusal. Stays a number: callers are told it, as docs/REFUSALS.md lists it.
     pub fn number(&self) -> u8
         ensures { result ≡ refusal self.now }
     {

@@ -1,6 +1,6 @@
 //! Programs: instructions written into a store, one after the other.
 #![tactic(auto)]
 
-pub mod counts;
+pub mod append;
 pub mod faults;
 pub mod open;

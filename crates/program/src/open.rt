@@ -3,16 +3,17 @@ ghost use Rattle.std.specs.Prelude.{◌≡◌, [], length};
 ghost use Rattle.store.specs.Answers.{when};
 ghost use Rattle.store.specs.Puts.{applied, puts};
 ghost use Rattle.instructions.specs.Words.{halfwords_in, halfwords_of};
-ghost use Rattle.program.specs.Calls.{none, more_used, emitted, spaced, built_emitted};
+ghost use Rattle.records.specs.Records.{none, more_used};
+ghost use Rattle.program.specs.Calls.{emitted, built_emitted};
 
-use crate::counts::Counts;
+use crate::append::append_word;
 use crate::faults::EmitFault;
 use instructions::build::build;
 use instructions::fields::Fields;
 use instructions::instruction::Instruction;
-use instructions::word::{Halfwords, halfwords_of};
 use operations::operation::Operation;
-use store::store::{Store, write};
+use records::counts::Counts;
+use store::store::Store;
 
 #[derive(Drop)]
 pub struct Open {
@@ -25,12 +26,7 @@ impl Open {
         ensures { result.counts ≡ none }
     {
         Open {
-            counts: Counts {
-                used: 0,
-                labels: 0,
-                jumps: 0,
-                slots: 0,
-            },
+            counts: Counts::default(),
         }
     }
 
@@ -38,7 +34,7 @@ impl Open {
     pub fn used(&self) -> usize
         ensures { result ≡ self.now.counts.used }
     {
-        self.counts.used
+        self.counts.used as usize
     }
 
     // Writes the instruction's halfwords behind those used so far.
@@ -47,10 +43,8 @@ impl Open {
         ensures counts { self.new.counts ≡ when result (more_used self.old.counts (length (halfwords_in i.now))) self.old.counts }
         ensures after { S.halfwords store.new ≡ applied (when result (puts self.old.counts.used (halfwords_in i.now)) []) (S.halfwords store.old) }
     {
-        match halfwords_of(i) {
-            Halfwords::One(a) => append(&mut self.counts, store, &[a]),
-            Halfwords::Two(a, b) => append(&mut self.counts, store, &[a, b]),
-        }
+        append_word(&mut self.counts, store, i)?;
+        Ok(())
     }
 
     // Builds an instruction and writes it.
@@ -67,19 +61,4 @@ impl Open {
         let i = build(op, fields)?;
         self.emit(store, &i)
     }
-}
-
-// Writes halfwords behind those used so far.
-fn append<S: Store>(counts: &mut Counts, store: &mut S, list: &[u16]) -> Result<(), EmitFault>
-    ensures answer { result ≡ spaced (length (S.halfwords store.old)) counts.old.used (length list.now) }
-    ensures counts { counts.new ≡ when result (more_used counts.old (length list.now)) counts.old }
-    ensures after { S.halfwords store.new ≡ applied (when result (puts counts.old.used list.now) []) (S.halfwords store.old) }
-{
-    let size = store.size();
-    if counts.used > size || list.len() > size - counts.used {
-        return Err(EmitFault::Full);
-    }
-    write(store, counts.used, list)?;
-    counts.used += list.len();
-    Ok(())
 }

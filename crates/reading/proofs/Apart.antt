@@ -1,7 +1,8 @@
 -- No two operations have a word in common: one test over all pairs, carried to each.
-use Rattle.std.proofs.Common.{◌≡◌, ℕ, zero, suc, ◌+◌, ◌*◌, ◌/◌, ◌%◌, ◌^◌, ◌<◌, Bool, true, false, cond, not, ◌&&◌, ◌||◌, eqb, ltb, List, [], ◌∷◌, length, get_or, ℤ, nat_abs, sym, refl, ap, ◌∙◌, subst, ap₂, suc-le-suc, le_of_suc-le-suc, not-suc-le-zero, mod-lt, zero-lt-suc, div-add-mod', arith}
+use Rattle.std.proofs.Common.{◌≡◌, ℕ, zero, suc, ◌+◌, ◌*◌, ◌/◌, ◌%◌, ◌^◌, ◌<◌, Bool, true, false, cond, not, ◌&&◌, ◌||◌, eqb, ltb, List, [], ◌∷◌, length, get_or, Some, None, Option, ℤ, nat_abs, sym, refl, ap, ◌∙◌, subst, ap₂, suc-le-suc, le_of_suc-le-suc, not-suc-le-zero, mod-lt, zero-lt-suc, div-add-mod', arith}
 use lib.Arith.{bin_ind}
 use lib.Bits.{bit_and, and_shr, and_mod, and_comm}
+use Rattle.std.proofs.lemmas.Bool.{eqb-true, ltb-true}
 use Rattle.std.proofs.lemmas.Bool.Decides.{nat_tests}
 use Rattle.bits.specs.declared.part.Field.{Field}
 use Rattle.bits.specs.declared.part.Field.TheVariants.{D, A, B, N, M, Opcode, Funct3, Funct}
@@ -13,7 +14,7 @@ use Rattle.bits.proofs.Layouts.{andb, under, one}
 use Rattle.formats.specs.Layouts.{layout}
 use Rattle.operations.specs.declared.row.Except.TheVariants.{Nothing, Zero, ZeroAndTwo}
 use Rattle.operations.specs.declared.row.Use.{Use}
-use Rattle.operations.specs.declared.row.Use.TheVariants.{Absent, Full, Short}
+use Rattle.operations.specs.declared.row.Use.TheVariants.{Full, Short}
 use Rattle.operations.specs.declared.row.Form.{Form}
 use Rattle.operations.specs.Manual.{Entry, operations, form_at, no_entry, count}
 use Rattle.operations.proofs.Rows.{operations_length}
@@ -21,7 +22,7 @@ use Rattle.instructions.specs.declared.fields.Fields.{Fields}
 use Rattle.instructions.specs.Faults.{reg_ok, lawful}
 use Rattle.instructions.specs.Faults as rules
 use Rattle.instructions.specs.Words.{raw_reg, raw, word_of}
-use Rattle.instructions.proofs.Checks.{every, every_at, rule_at}
+use Rattle.instructions.proofs.Checks.{no, every, every_at, rule_at}
 use Rattle.instructions.proofs.Forms.{Agrees, form_agrees, raw_fits}
 use Rattle.instructions.proofs.Sizes.{codes, raw_bits}
 
@@ -56,9 +57,6 @@ and_assoc =
 orb : (b c : Bool) (P : Type 0) → (b ≡ true → P) → (c ≡ true → P) → (b || c) ≡ true → P
 orb true c P p q t = p refl
 orb false c P p q t = q t
-
-is : (a b : ℕ) → eqb a b ≡ true → a ≡ b
-is a b t = grind (arith, nat_tests)
 
 -- the parts of one field
 abbrev of : Field → Part → Bool
@@ -111,7 +109,7 @@ pub form_fixes : (k : ℕ) → k < count → Fixes (form_at k)
 form_fixes k h =
     let r = form_at k in
     let z = andb (eqb r.mask (mask (layout r.kind))) (eqb r.bits (bits (layout r.kind) (codes r))) (every_at (λ (e : Entry). fixed_tests e.form) operations no_entry all_fixed k (in_table h)) in
-    record { mask_is = is r.mask (mask (layout r.kind)) z.0; bits_is = is r.bits (bits (layout r.kind) (codes r)) z.1 }
+    record { mask_is = eqb-true r.mask (mask (layout r.kind)) z.0; bits_is = eqb-true r.bits (bits (layout r.kind) (codes r)) z.1 }
 
 -- an instruction's word has its operation's fixed bits
 pub has_bits : (r : Form) (f : Fields) → Fixes r → bit_and (word_of r f) r.mask ≡ r.bits
@@ -127,19 +125,19 @@ settles a b f c =
     && (eqb (bit_and b.mask (ones (of f) (layout a.kind))) (ones (of f) (layout a.kind))
     && eqb (bit_and b.bits (ones (of f) (layout a.kind))) (taken (of f) (layout a.kind) (only f c)))
 
-abbrev no_zero : Use → Bool
-no_zero Absent = false
-no_zero (Full c Nothing) = false
-no_zero (Full c Zero) = true
-no_zero (Full c ZeroAndTwo) = true
-no_zero (Short c) = false
+abbrev no_zero : Option Use → Bool
+no_zero None = false
+no_zero (Some (Full c Nothing)) = false
+no_zero (Some (Full c Zero)) = true
+no_zero (Some (Full c ZeroAndTwo)) = true
+no_zero (Some (Short c)) = false
 
-abbrev no_two : Use → Bool
-no_two Absent = false
-no_two (Full c Nothing) = false
-no_two (Full c Zero) = false
-no_two (Full c ZeroAndTwo) = true
-no_two (Short c) = false
+abbrev no_two : Option Use → Bool
+no_two None = false
+no_two (Some (Full c Nothing)) = false
+no_two (Some (Full c Zero)) = false
+no_two (Some (Full c ZeroAndTwo)) = true
+no_two (Some (Short c)) = false
 
 abbrev voided : Form → Form → Bool
 voided a b = (no_zero a.b && settles a b B 0) || ((no_zero a.a && settles a b A 0) || (no_two a.d && settles a b D 2))
@@ -151,40 +149,34 @@ differ a b = not (eqb (bit_and a.bits b.mask) (bit_and b.bits a.mask)) || (voide
 self : (f : Field) → same f f ≡ true
 self f = grind (arith, nat_tests)
 
-below : (c n : ℕ) → ltb c n ≡ true → c < n
-below c n t = grind (arith, nat_tests)
-
 settled : (a b : Form) (f : Field) (c w : ℕ) (x : Fields) → Agrees a → lawful a x ≡ true → word_of a x ≡ w → bit_and w b.mask ≡ b.bits → settles a b f c ≡ true → value_at f (raw a x) ≡ c
 settled a b f c w x g o e h t =
     let s = layout a.kind in
     let t1 = andb (ltb c (2 ^ span s f)) _ t in
     let t2 = andb (eqb (bit_and b.mask (ones (of f) s)) (ones (of f) s)) (eqb (bit_and b.bits (ones (of f) s)) (taken (of f) s (only f c))) t1.1 in
-    let m = is (bit_and b.mask (ones (of f) s)) (ones (of f) s) t2.0 in
-    let n = is (bit_and b.bits (ones (of f) s)) (taken (of f) s (only f c)) t2.1 in
+    let m = eqb-true (bit_and b.mask (ones (of f) s)) (ones (of f) s) t2.0 in
+    let n = eqb-true (bit_and b.bits (ones (of f) s)) (taken (of f) s (only f c)) t2.1 in
     one (of f) (raw a x) (only f c) f (λ l k. self f) s
     (sym (under (of f) s (raw a x)) ∙ ap (λ y. bit_and y (ones (of f) s)) e ∙ ap (bit_and w) (sym m) ∙ sym (and_assoc w b.mask (ones (of f) s)) ∙ ap (λ y. bit_and y (ones (of f) s)) h ∙ n)
-    (raw_fits a x g o f) (subst (λ y. y < 2 ^ span s f) (sym (only_at f c)) (below c (2 ^ span s f) t1.0))
+    (raw_fits a x g o f) (subst (λ y. y < 2 ^ span s f) (sym (only_at f c)) (ltb-true c (2 ^ span s f) t1.0))
     ∙ only_at f c
 
 clash_of : (x c : ℕ) → not (eqb x c) ≡ true → x ≡ c → ⊥
 clash_of x c t e = let z : ◌≡◌ {A = ℕ} 0 1 = grind (arith, nat_tests) in omega arith
 
-off : (P : Type 0) → false ≡ true → P
-off P t = absurd (let z : ◌≡◌ {A = ℕ} 0 1 = cc in omega arith)
+not_zero : (u : Option Use) (x : ℤ) → no_zero u ≡ true → rules.taken u x ≡ true → raw_reg u x ≡ 0 → ⊥
+not_zero None x n t e = no ⊥ n
+not_zero (Some (Full c Nothing)) x n t e = no ⊥ n
+not_zero (Some (Full c Zero)) x n t e = clash_of (nat_abs x) 0 t e
+not_zero (Some (Full c ZeroAndTwo)) x n t e = clash_of (nat_abs x) 0 (andb (not (eqb (nat_abs x) 0)) (not (eqb (nat_abs x) 2)) t).0 e
+not_zero (Some (Short c)) x n t e = no ⊥ n
 
-not_zero : (u : Use) (x : ℤ) → no_zero u ≡ true → rules.taken u x ≡ true → raw_reg u x ≡ 0 → ⊥
-not_zero Absent x n t e = off ⊥ n
-not_zero (Full c Nothing) x n t e = off ⊥ n
-not_zero (Full c Zero) x n t e = clash_of (nat_abs x) 0 t e
-not_zero (Full c ZeroAndTwo) x n t e = clash_of (nat_abs x) 0 (andb (not (eqb (nat_abs x) 0)) (not (eqb (nat_abs x) 2)) t).0 e
-not_zero (Short c) x n t e = off ⊥ n
-
-not_two : (u : Use) (x : ℤ) → no_two u ≡ true → rules.taken u x ≡ true → raw_reg u x ≡ 2 → ⊥
-not_two Absent x n t e = off ⊥ n
-not_two (Full c Nothing) x n t e = off ⊥ n
-not_two (Full c Zero) x n t e = off ⊥ n
-not_two (Full c ZeroAndTwo) x n t e = clash_of (nat_abs x) 2 (andb (not (eqb (nat_abs x) 0)) (not (eqb (nat_abs x) 2)) t).1 e
-not_two (Short c) x n t e = off ⊥ n
+not_two : (u : Option Use) (x : ℤ) → no_two u ≡ true → rules.taken u x ≡ true → raw_reg u x ≡ 2 → ⊥
+not_two None x n t e = no ⊥ n
+not_two (Some (Full c Nothing)) x n t e = no ⊥ n
+not_two (Some (Full c Zero)) x n t e = no ⊥ n
+not_two (Some (Full c ZeroAndTwo)) x n t e = clash_of (nat_abs x) 2 (andb (not (eqb (nat_abs x) 0)) (not (eqb (nat_abs x) 2)) t).1 e
+not_two (Some (Short c)) x n t e = no ⊥ n
 
 voided_not : (a b : Form) (w : ℕ) (x : Fields) → Agrees a → lawful a x ≡ true → word_of a x ≡ w → bit_and w b.mask ≡ b.bits → voided a b ≡ true → ⊥
 voided_not a b w x g o e h t =

@@ -2,3 +2,4 @@ pub mod Backs
 pub mod Apart
 pub mod Tell
 pub mod Steps
+pub mod Takes

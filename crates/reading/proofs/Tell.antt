@@ -1,5 +1,5 @@
 -- A word tells its instruction, and halfwords tell a list of them.
-use Rattle.std.proofs.Common.{◌≡◌, ℕ, ◌/◌, ◌%◌, Bool, true, false, cond, eqb, List, [], ◌∷◌, ◌++◌, sym, refl, ap, ◌∙◌, subst, ap₂, arith}
+use Rattle.std.proofs.Common.{◌≡◌, ℕ, ◌/◌, ◌%◌, Bool, true, false, cond, eqb, ◌<◌, List, [], ◌∷◌, ◌++◌, Some, None, Option, MatchOption, sym, refl, ap, ◌∙◌, subst, ap₂, arith}
 use mathlib.Core.Bool.{Bool-set}
 use mathlib.Core.HLevel.{is_prop→PathP}
 use denote.Struct.Record.{values_one}
@@ -10,7 +10,7 @@ use Rattle.formats.proofs.Sound.{layout_sound}
 use Rattle.operations.specs.declared.row.Form.{Form}
 use Rattle.operations.specs.declared.operation.Operation.{Operation}
 use Rattle.operations.specs.contracts.operation.Operation as O
-use Rattle.operations.specs.Manual.{form_at}
+use Rattle.operations.specs.Manual.{form_at, count}
 use Rattle.instructions.specs.declared.fields.Fields.{Fields}
 use Rattle.instructions.specs.declared.instruction.Instruction.{Instruction}
 use Rattle.instructions.specs.Faults.{lawful}
@@ -18,7 +18,7 @@ use Rattle.instructions.specs.Words.{raw, word_of, the_word, halves, halfwords_i
 use Rattle.instructions.proofs.Forms.{Agrees, form_agrees, raw_fits}
 use Rattle.instructions.proofs.Sizes.{low_bits_tell}
 use Rattle.reading.specs.Fields.{fields_of}
-use Rattle.reading.specs.Reading.{WordsTell, listing, HalfwordsTell}
+use Rattle.reading.specs.Reading.{Reads, Unread, WordsTell, listing, HalfwordsTell}
 use Rattle.reading.proofs.Backs.{fields_back}
 use Rattle.reading.proofs.Apart.{unconfused}
 
@@ -44,6 +44,11 @@ words_tell a b e =
     same a b p
     (fields_one (form_at b.op.place) a.fields b.fields (form_agrees b.op.place b.op.real) (subst (λ k. lawful (form_at k) a.fields ≡ true) p a.ok) b.ok
     (ap (λ k. word_of (form_at k) a.fields) (sym p) ∙ e))
+
+-- what is found among all operations is the instruction whose word it is
+pub found : (w : ℕ) (r : Option Instruction) → MatchOption r ((k : ℕ) → k < count → Unread k w) (λ i. the_word i ≡ w) → Reads w r
+found w None n i = (λ e. absurd (let z : ◌≡◌ {A = ℕ} 0 1 = cc in omega arith), λ e. absurd ((n i.op.place i.op.real).none i.fields i.ok e))
+found w (Some j) h i = (λ e. let s : j ≡ i = cc in subst (λ i. the_word i ≡ w) s h, λ e. ap Some (words_tell j i (h ∙ sym e)))
 
 -- ---- lists
 

@@ -1,34 +1,31 @@
 -- The instruction's fields that stand in a word.
-use Rattle.std.specs.Prelude.{ℕ, ◌+◌, ◌-◌, ◌*◌, ◌^◌, ◌<◌, cond, ℤ, pos, negsuc, nat_lt}
+use Rattle.std.specs.Prelude.{ℕ, ◌+◌, ◌-◌, ◌*◌, ◌^◌, ◌<◌, cond, Some, None, Option, ℤ, pos, negsuc, nat_lt}
 use Rattle.bits.specs.declared.part.Values.{Values}
 use Rattle.operations.specs.declared.row.Use.{Use}
-use Rattle.operations.specs.declared.row.Use.TheVariants.{Absent, Full, Short}
+use Rattle.operations.specs.declared.row.Use.TheVariants.{Full, Short}
 use Rattle.operations.specs.declared.row.Number.{Number}
-use Rattle.operations.specs.declared.row.Number.TheVariants.{NoNumber, Signed, Unsigned}
+use Rattle.operations.specs.declared.row.Number.TheVariants.{Signed, Unsigned}
 use Rattle.operations.specs.declared.row.Masking.{Masking}
-use Rattle.operations.specs.declared.row.Masking.TheVariants.{NoMask, Free, Always, Never}
 use Rattle.operations.specs.declared.row.Form.{Form}
 use Rattle.instructions.specs.declared.fields.Fields.{Fields}
 
-abbrev pub reg_of : Use → ℕ → ℤ
-reg_of Absent x = pos 0
-reg_of (Full c e) x = pos x
-reg_of (Short c) x = pos (x + 8)
+abbrev pub reg_of : Option Use → ℕ → ℤ
+reg_of None x = pos 0
+reg_of (Some (Full c e)) x = pos x
+reg_of (Some (Short c)) x = pos (x + 8)
 
 -- k bits read as a signed number, times the unit
 abbrev pub signed_units : ℕ → ℕ → ℕ → ℤ
 signed_units k u x = cond (nat_lt x (2 ^ (k - 1))) (pos (x * u)) (negsuc ((2 ^ k - x) * u - 1))
 
-abbrev pub number_of : Number → ℕ → ℤ
-number_of NoNumber x = pos 0
-number_of (Signed k u w) x = signed_units k u x
-number_of (Unsigned k u w) x = pos (x * u)
+abbrev pub number_of : Option Number → ℕ → ℤ
+number_of None x = pos 0
+number_of (Some (Signed k u w)) x = signed_units k u x
+number_of (Some (Unsigned k u w)) x = pos (x * u)
 
-abbrev pub mask_of : Masking → ℕ → ℤ
-mask_of NoMask x = pos 0
-mask_of Free x = pos (1 - x)
-mask_of Always x = pos (1 - x)
-mask_of Never x = pos (1 - x)
+abbrev pub mask_of : Option Masking → ℕ → ℤ
+mask_of None x = pos 0
+mask_of (Some u) x = pos (1 - x)
 
 abbrev pub fields_of : Form → Values → Fields
 fields_of r v = record {
@@ -40,10 +37,10 @@ fields_of r v = record {
 }
 
 -- what the code asks: no field is wider than its place
-abbrev pub Narrow : Number → ℕ → Type 0
-Narrow NoNumber x = Unit {0}
-Narrow (Signed k u w) x = x < 2 ^ k
-Narrow (Unsigned k u w) x = x < 2 ^ k
+abbrev pub Narrow : Option Number → ℕ → Type 0
+Narrow None x = Unit {0}
+Narrow (Some (Signed k u w)) x = x < 2 ^ k
+Narrow (Some (Unsigned k u w)) x = x < 2 ^ k
 
 pub record Narrows (r : Form) (v : Values) : Type 0 where
   pub d : v.d < 32

@@ -25,9 +25,13 @@ abbrev pub ValuesAs : Form → ℕ → Option Values → Type 0
 ValuesAs r w None = (v : Values) → Fit (layout r.kind) v → Coded r v → word (layout r.kind) v ≢ w
 ValuesAs r w (Some v) = Fit (layout r.kind) v × Coded r v × (word (layout r.kind) v ≡ w)
 
+-- it is the word of no lawful fields of the operation at k
+pub record Unread (k w : ℕ) : Type 0 where
+  pub none : (f : Fields) → lawful (form_at k) f ≡ true → word_of (form_at k) f ≢ w
+
 -- the word as an instruction of one operation: none only where none has it
 abbrev pub ReadsAs : ℕ → ℕ → Option Instruction → Type 0
-ReadsAs k w None = (f : Fields) → lawful (form_at k) f ≡ true → word_of (form_at k) f ≢ w
+ReadsAs k w None = Unread k w
 ReadsAs k w (Some i) = the_word i ≡ w
 
 -- equal words, equal instructions

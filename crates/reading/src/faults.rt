@@ -11,7 +11,7 @@ pub enum ReadFault {
 }
 
 impl ReadFault {
-    // The number of the refusal.
+    // The number of the refusal. Stays a number: callers are told it, as docs/REFUSALS.md lists it.
     pub fn number(&self) -> u8
         ensures { result ≡ refusal self.now }
     {

@@ -1,5 +1,5 @@
 // An instruction out of a store.
-ghost use Rattle.std.specs.Prelude.{◌≡◌};
+ghost use Rattle.std.specs.Prelude.{◌≡◌, take};
 ghost use Rattle.std.specs.List.{slice_get};
 ghost use Rattle.reading.specs.Reading.{Reads};
 ghost use Rattle.reading.specs.Places.{word_at, answered, ReadsAt};
@@ -9,36 +9,39 @@ use crate::word::read_word;
 use instructions::instruction::Instruction;
 use store::store::Store;
 
-// The word that begins at a place: a second halfword belongs to it when the low two bits of the first are both 1.
+// The halfword at a place of the first `used`.
+fn half_within<S: Store>(store: &S, used: usize, place: usize) -> Option<u16>
+    ensures { result ≡ slice_get (take used (S.halfwords store.now)) place }
+{
+    if place < used { store.get(place) } else { None }
+}
+
+// The word that begins at a place of the first `used` halfwords, whole: a second halfword belongs to it when the low two bits of the first are both 1.
+pub fn word_within<S: Store>(store: &S, used: usize, place: usize) -> Option<u32>
+    ensures { result ≡ word_at (take used (S.halfwords store.now)) place }
+{
+    if place >= used {
+        return None;
+    }
+    let low = half_within(store, used, place)?;
+    if low % 4 != 3 {
+        return Some(u32::from(low));
+    }
+    let high = half_within(store, used, place + 1)?;
+    Some(u32::from(high) * 65536 + u32::from(low))
+}
+
+// The word that begins at a place of a store.
 fn word_at<S: Store>(store: &S, place: usize) -> Option<u32>
     ensures { result ≡ word_at (S.halfwords store.now) place }
 {
-    if place >= store.size() {
-        return None;
-    }
-    let low = store.get(place)?;
-    if low % 4 != 3 {
-        return Some(low as u32);
-    }
-    let high = store.get(place + 1)?;
-    Some(high as u32 * 65536 + low as u32)
-}
-
-fn answer(w: u32, found: Option<Instruction>) -> Result<Instruction, ReadFault>
-    ensures { result ≡ answered w found }
-{
-    match found {
-        Some(i) => Ok(i),
-        None => Err(ReadFault::NoInstruction(w)),
-    }
+    word_within(store, store.size(), place)
 }
 
 // The instruction that begins at a place of a store.
 pub fn read<S: Store>(store: &S, place: usize) -> Result<Instruction, ReadFault>
     ensures { ReadsAt (word_at (S.halfwords store.now) place) place result }
 {
-    match word_at(store, place) {
-        Some(w) => answer(w, read_word(w)),
-        None => Err(ReadFault::Outside(place)),
-    }
+    let w = word_at(store, place).ok_or(ReadFault::Outside(place))?;
+    read_word(w).ok_or(ReadFault::NoInstruction(w))
 }

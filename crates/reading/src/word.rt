@@ -1,15 +1,17 @@
 // A word as an instruction.
-ghost use Rattle.std.specs.Prelude.{◌≡◌, Decides};
-ghost use Rattle.reading.specs.Reading.{Reads, ReadsAs, ValuesAs, Coded};
+ghost use Rattle.std.specs.Prelude.{◌≡◌, ℕ, ◌<◌, Decides, MatchOption};
+ghost use Rattle.operations.specs.Manual.{count};
+ghost use Rattle.instructions.specs.Words.{the_word};
+ghost use Rattle.reading.specs.Reading.{Reads, ReadsAs, ValuesAs, Coded, Unread};
 
 use crate::fields::fields_of;
 use bits::part::Values;
 use dispatch::values_for;
 use instructions::build::known_form;
-use instructions::faults::fault_of;
 use instructions::instruction::Instruction;
 use operations::operation::Operation;
 use operations::row::Form;
+use operations::table::COUNT;
 
 // Whether the fields have the operation's codes.
 fn has_codes(form: &Form, v: &Values) -> bool
@@ -22,34 +24,39 @@ fn has_codes(form: &Form, v: &Values) -> bool
 fn values_of(form: &Form, w: u32) -> Option<Values>
     ensures { ValuesAs form.now w result }
 {
-    let v = values_for(form.kind, w)?;
-    if has_codes(form, &v) { Some(v) } else { None }
+    values_for(form.kind, w).filter(|v| has_codes(form, v))
 }
 
 // The word as an instruction of one operation.
 fn read_as(op: Operation, w: u32) -> Option<Instruction>
     ensures { ReadsAs op.place w result }
 {
-    let form = known_form(op);
+    let known = known_form(op);
+    let form = &known.form;
     if w & form.mask != form.bits {
         return None;
     }
-    let v = values_of(&form, w)?;
-    let fields = fields_of(&form, &v);
-    match fault_of(&form, &fields) {
-        Some(_) => None,
-        None => Some(Instruction::of(op, fields)),
-    }
+    let v = values_of(form, w)?;
+    Instruction::checked(op, fields_of(&known, &v)).ok()
+}
+
+// The word as an instruction of the operation at a place.
+fn read_at(place: usize, w: u32) -> Option<Instruction>
+    ensures { place < count → ReadsAs place w result }
+{
+    read_as(Operation::at(place)?, w)
+}
+
+// The word as an instruction of the first operation that has it.
+fn first_read(w: u32) -> Option<Instruction>
+    ensures { MatchOption result ((k : ℕ) → k < count → Unread k w) (λ i. the_word i ≡ w) }
+{
+    (0..COUNT).find_map(|place| read_at(place, w))
 }
 
 // The instruction whose word it is.
 pub fn read_word(w: u32) -> Option<Instruction>
     ensures { Reads w result }
 {
-    for place in 0..233 {
-        if let Some(i) = read_as(Operation { place }, w) {
-            return Some(i);
-        }
-    }
-    None
+    first_read(w)
 }

@@ -1,16 +1,16 @@
 // The book of a program: its labels, jumps and slots, each kind in the order in which they came. How many of them count is told by `Counts`.
-ghost use Rattle.std.specs.Prelude.{◌≡◌, ℕ, length};
+ghost use Rattle.std.specs.Prelude.{◌≡◌, ◌+◌, nat_le};
 ghost use Rattle.records.specs.Records.{blank};
 
 // A label and the place where it is bound.
-#[derive(Clone, Copy)]
+#[derive(Clone, Copy, Default)]
 pub struct LabelRecord {
     pub label: usize,
     pub place: u32,
 }
 
 // A jump's place and label and, once the program is sealed, its distance in bytes.
-#[derive(Clone, Copy)]
+#[derive(Clone, Copy, Default)]
 pub struct JumpRecord {
     pub place: u32,
     pub label: usize,
@@ -18,12 +18,22 @@ pub struct JumpRecord {
 }
 
 // A slot: the place of a constant's pair of instructions, and the register that they load.
-#[derive(Clone, Copy)]
+#[derive(Clone, Copy, Default)]
 pub struct SlotRecord {
     pub place: u32,
     pub register: i64,
 }
 
+impl SlotRecord {
+    // Whether the four halfwords of its pair lie inside the used ones.
+    pub fn fits(&self, used: u32) -> bool
+        ensures { result ≡ nat_le (self.now.place + 4) used }
+    {
+        self.place <= used && used - self.place >= 4
+    }
+}
+
+// Stays: rows of fixed length, of which `Counts` tells how much counts, since a program's memory is fixed and its book is plain.
 #[derive(Drop)]
 pub struct Book {
     pub labels: [LabelRecord; 64],
@@ -37,30 +47,9 @@ impl Book {
         ensures { result ≡ blank }
     {
         Book {
-            labels: [LabelRecord { label: 0, place: 0 }; 64],
-            jumps: [JumpRecord {
-                place: 0,
-                label: 0,
-                distance: 0,
-            }; 128],
-            slots: [SlotRecord {
-                place: 0,
-                register: 0,
-            }; 32],
+            labels: [LabelRecord::default(); 64],
+            jumps: [JumpRecord::default(); 128],
+            slots: [SlotRecord::default(); 32],
         }
     }
-}
-
-// How many records of each kind a book can hold.
-pub fn whole(book: &Book)
-    ensures labels { length book.now.labels ≡ 64 }
-    ensures jumps { length book.now.jumps ≡ 128 }
-    ensures slots { length book.now.slots ≡ 32 }
-{
-    let labels: &[LabelRecord] = &book.labels;
-    let jumps: &[JumpRecord] = &book.jumps;
-    let slots: &[SlotRecord] = &book.slots;
-    let _labels = labels.len();
-    let _jumps = jumps.len();
-    let _slots = slots.len();
 }

@@ -1,26 +1,24 @@
 // Where labels are bound.
-ghost use Rattle.std.specs.Prelude.{◌≡◌, min};
+ghost use Rattle.std.specs.Prelude.{◌≡◌, ◌==◌, take};
+ghost use Rattle.std.specs.List.{find};
 ghost use Rattle.records.specs.Records.{place_of, labels_among};
 
-use crate::book::{Book, whole};
+use crate::book::{Book, LabelRecord};
 
-// The smaller of two numbers.
-pub fn at_most(n: usize, most: usize) -> usize
-    ensures { result ≡ min n most }
+// The first record of the label, among the first `count`.
+fn record_of(labels: &[LabelRecord], count: usize, label: usize) -> Option<LabelRecord>
+    ensures { result ≡ find (λ r. r.label == label) (take count labels.now) }
 {
-    if n <= most { n } else { most }
+    labels
+        .iter()
+        .copied()
+        .take(count)
+        .find(|entry| entry.label == label)
 }
 
 // Where a label is bound, among the first `count` labels of the book.
 pub fn place_of(book: &Book, count: usize, label: usize) -> Option<u32>
     ensures { result ≡ place_of (labels_among count book.now) label }
 {
-    whole(book);
-    for k in 0..at_most(count, 64) {
-        let entry = book.labels[k];
-        if entry.label == label {
-            return Some(entry.place);
-        }
-    }
-    None
+    record_of(&book.labels, count, label).map(|entry| entry.place)
 }

@@ -1,7 +1,7 @@
 -- The operands in the fields of a line.
 use Rattle.std.specs.Prelude.{ℕ, ◌-◌, ◌^◌, cond, List, ℤ, pos, negsuc, Some, None, Option, ◌==◌, nat_le, nat_lt}
 use Rattle.std.specs.Option.{option_map}
-use Rattle.text.specs.Fields.{field_of, text_of}
+use Rattle.text.specs.Fields.{Part, field_of, text_of}
 use Rattle.text.specs.Numbers.{value_of}
 use Rattle.operands.specs.declared.masking.VecOpMasking.{VecOpMasking}
 use Rattle.operands.specs.declared.masking.VecOpMasking.TheVariants.{Enabled, Disabled}
@@ -15,10 +15,6 @@ found (Some x) k = k x
 abbrev pub text_at : List ℕ → ℕ → Option (List ℕ)
 text_at line k = option_map text_of (field_of line k)
 
--- the number in a field
-abbrev pub number_at : List ℕ → ℕ → Option ℤ
-number_at line k = found (field_of line k) value_of
-
 -- a number from 0 to below the limit
 abbrev pub natural : ℕ → ℤ → Option ℕ
 natural limit (pos n) = cond (nat_lt n limit) (Some n) None
@@ -29,11 +25,27 @@ abbrev pub within : ℕ → ℤ → Option ℤ
 within limit (pos n) = cond (nat_lt n limit) (Some (pos n)) None
 within limit (negsuc n) = cond (nat_lt n limit) (Some (negsuc n)) None
 
+-- what is written for a register 8 to 15
+abbrev pub short : ℤ → Option ℕ
+short z = found (natural 16 z) (λ n. cond (nat_le 8 n) (Some (n - 8)) None)
+
+-- 1 when masked, else 0
+abbrev pub masking : ℤ → Option VecOpMasking
+masking z = found (natural 2 z) (λ m. Some (cond (m == 1) Enabled Disabled))
+
+-- what a field's number stands for
+abbrev pub counted : {A : Type 0} → (ℤ → Option A) → Part → Option A
+counted meaning p = found (value_of p) meaning
+
+-- what a field of a line stands for
+abbrev pub operand_at : {A : Type 0} → List ℕ → ℕ → (Part → Option A) → Option A
+operand_at line k read = found (field_of line k) read
+
 abbrev pub natural_at : List ℕ → ℕ → ℕ → Option ℕ
-natural_at line k limit = found (number_at line k) (natural limit)
+natural_at line k limit = operand_at line k (counted (natural limit))
 
 abbrev pub integer_at : List ℕ → ℕ → ℕ → Option ℤ
-integer_at line k limit = found (number_at line k) (within limit)
+integer_at line k limit = operand_at line k (counted (within limit))
 
 -- a plain field
 abbrev pub code_at : List ℕ → ℕ → Option ℕ
@@ -43,10 +55,8 @@ code_at line k = natural_at line k (2 ^ 32)
 abbrev pub reg_at : List ℕ → ℕ → Option ℕ
 reg_at line k = natural_at line k 32
 
--- what is written for a register 8 to 15
 abbrev pub short_at : List ℕ → ℕ → Option ℕ
-short_at line k = found (natural_at line k 16) (λ n. cond (nat_le 8 n) (Some (n - 8)) None)
+short_at line k = operand_at line k (counted short)
 
--- 1 when masked, else 0
 abbrev pub masking_at : List ℕ → ℕ → Option VecOpMasking
-masking_at line k = found (natural_at line k 2) (λ m. Some (cond (m == 1) Enabled Disabled))
+masking_at line k = operand_at line k (counted masking)

@@ -10,18 +10,19 @@ use Rattle.formats.specs.Lawful.{check, first_wide}
 use Rattle.args.specs.Codes.{space, width_code, CrOp-op, CrOp-funct4, CaOp-op, CaOp-funct2, CaOp-funct6, CjOp-op, CjOp-funct3, CiOp-op, CiOp-funct3, CiwOp-op, CiwOp-funct3, CbOp-op, CbOp-funct3, CbOp-funct2, CssOp-op, CssOp-funct3, CsOp-op, CsOp-funct3, ClOp-op, ClOp-funct3}
 use Rattle.encoders.specs.declared.faults.EncodeFault.{EncodeFault}
 use Rattle.encoders.specs.Encodings.{answered, fields, unit_stride, jumped, sp_load, loaded, sp_store, store_kind, load_kind}
-use Rattle.replay.specs.declared.answer.Answer.{Answer}
-use Rattle.replay.specs.declared.answer.Answer.TheVariants.{Word, Half, Refused}
-use Rattle.replay.specs.Operands.{found, text_at, natural_at, integer_at, code_at, reg_at, short_at, masking_at}
-use Rattle.replay.specs.Names.{cr_op, ca_op, cj_op, ci_op, ciw_op, cb_op, css_op, cs_op, cl_op, width, form_named}
+use Rattle.replay.specs.declared.answer.Word.{Word}
+use Rattle.replay.specs.declared.answer.Word.TheVariants.{Wide, Short}
+use Rattle.replay.specs.Operands.{found, natural_at, integer_at, code_at, reg_at, short_at, masking_at}
+use Rattle.replay.specs.Names.{named_at, form_at, cr_ops, ca_ops, cj_ops, ci_ops, ciw_ops, cb_ops, css_ops, cs_ops, cl_ops, widths}
 
-abbrev pub wide : Result ℕ EncodeFault → Answer
-wide (Ok w) = Word w
-wide (Err e) = Refused
+-- a word, or why there is none
+abbrev pub Answer : Type 0
+Answer = Result Word EncodeFault
 
-abbrev pub half : Result ℕ EncodeFault → Answer
-half (Ok w) = Half w
-half (Err e) = Refused
+-- what an encoder of words of one size answers, among the words of both
+abbrev pub among : (ℕ → Word) → Result ℕ EncodeFault → Answer
+among size (Ok w) = Ok (size w)
+among size (Err e) = Err e
 
 -- ---- 32 bits
 
@@ -33,7 +34,7 @@ r_type t =
     found (reg_at t 4) (λ rs1.
     found (reg_at t 5) (λ rs2.
     found (code_at t 6) (λ f7.
-    Some (wide (answered (first_wide (check opcode 7 Opcode ∷ check f3 3 Funct3 ∷ check f7 7 Funct7 ∷ [])) (word (layout kinds.R) (fields rd rs1 rs2 0 0 opcode f3 f7))))))))))
+    Some (among Wide (answered (first_wide (check opcode 7 Opcode ∷ check f3 3 Funct3 ∷ check f7 7 Funct7 ∷ [])) (word (layout kinds.R) (fields rd rs1 rs2 0 0 opcode f3 f7))))))))))
 
 abbrev pub i_type : List ℕ → Option Answer
 i_type t =
@@ -42,7 +43,7 @@ i_type t =
     found (code_at t 3) (λ f3.
     found (reg_at t 4) (λ rs1.
     found (integer_at t 5 2048) (λ z.
-    Some (wide (answered (first_wide (check opcode 7 Opcode ∷ check f3 3 Funct3 ∷ [])) (word (layout kinds.I) (fields rd rs1 0 (twos 12 z) 0 opcode f3 0)))))))))
+    Some (among Wide (answered (first_wide (check opcode 7 Opcode ∷ check f3 3 Funct3 ∷ [])) (word (layout kinds.I) (fields rd rs1 0 (twos 12 z) 0 opcode f3 0)))))))))
 
 abbrev pub s_type : List ℕ → Option Answer
 s_type t =
@@ -51,121 +52,121 @@ s_type t =
     found (reg_at t 3) (λ base.
     found (reg_at t 4) (λ src.
     found (integer_at t 5 2048) (λ z.
-    Some (wide (answered (first_wide (check opcode 7 Opcode ∷ check f3 3 Funct3 ∷ [])) (word (layout kinds.S) (fields 0 base src (twos 12 z) 0 opcode f3 0)))))))))
+    Some (among Wide (answered (first_wide (check opcode 7 Opcode ∷ check f3 3 Funct3 ∷ [])) (word (layout kinds.S) (fields 0 base src (twos 12 z) 0 opcode f3 0)))))))))
 
 -- ---- vectors
 
 -- vector arithmetic: vs1 in one field and vs2 in another
 abbrev pub valu : List ℕ → ℕ → ℕ → Option Answer
 valu t first second =
-    found (form_named t 1) (λ f.
+    found (form_at t 1) (λ f.
     found (reg_at t 2) (λ vd.
     found (reg_at t first) (λ vs1.
     found (reg_at t second) (λ vs2.
     found (masking_at t 5) (λ m.
-    Some (wide (answered (first_wide (check f.opcode 7 Opcode ∷ check f.funct3 3 Funct3 ∷ check f.funct 6 Funct6 ∷ [])) (word (layout kinds.V) (fields vd vs1 vs2 0 (mask_bit m) f.opcode f.funct3 f.funct)))))))))
+    Some (among Wide (answered (first_wide (check f.opcode 7 Opcode ∷ check f.funct3 3 Funct3 ∷ check f.funct 6 Funct6 ∷ [])) (word (layout kinds.V) (fields vd vs1 vs2 0 (mask_bit m) f.opcode f.funct3 f.funct)))))))))
 
 abbrev pub valu_imm : List ℕ → Option Answer
 valu_imm t =
-    found (form_named t 1) (λ f.
+    found (form_at t 1) (λ f.
     found (reg_at t 2) (λ vd.
     found (integer_at t 3 16) (λ z.
     found (reg_at t 4) (λ vs2.
     found (masking_at t 5) (λ m.
-    Some (wide (answered (first_wide (check f.opcode 7 Opcode ∷ check f.funct3 3 Funct3 ∷ check f.funct 6 Funct6 ∷ [])) (word (layout kinds.VImm) (fields vd 0 vs2 (twos 5 z) (mask_bit m) f.opcode f.funct3 f.funct)))))))))
+    Some (among Wide (answered (first_wide (check f.opcode 7 Opcode ∷ check f.funct3 3 Funct3 ∷ check f.funct 6 Funct6 ∷ [])) (word (layout kinds.VImm) (fields vd 0 vs2 (twos 5 z) (mask_bit m) f.opcode f.funct3 f.funct)))))))))
 
 abbrev pub vmem : List ℕ → Option Answer
 vmem t =
     found (code_at t 1) (λ opcode.
     found (reg_at t 2) (λ vd.
-    found (found (text_at t 3) width) (λ w.
+    found (named_at t 3 widths) (λ w.
     found (reg_at t 4) (λ rs1.
     found (code_at t 5) (λ umop.
     found (masking_at t 6) (λ m.
     found (code_at t 7) (λ mop.
     found (code_at t 8) (λ nf.
-    Some (wide (answered (first_wide (check opcode 7 Opcode ∷ check umop 5 Lumop ∷ check mop 2 Mop ∷ check nf 3 Nf ∷ [])) (word unit_stride (fields vd rs1 umop mop (mask_bit m) opcode (width_code w) nf))))))))))))
+    Some (among Wide (answered (first_wide (check opcode 7 Opcode ∷ check umop 5 Lumop ∷ check mop 2 Mop ∷ check nf 3 Nf ∷ [])) (word unit_stride (fields vd rs1 umop mop (mask_bit m) opcode (width_code w) nf))))))))))))
 
 -- ---- 16 bits
 
 abbrev pub cr_type : List ℕ → Option Answer
 cr_type t =
-    found (found (text_at t 1) cr_op) (λ op.
+    found (named_at t 1 cr_ops) (λ op.
     found (reg_at t 2) (λ rd.
     found (reg_at t 3) (λ rs2.
-    Some (Half (word (layout kinds.Cr) (fields rd 0 rs2 0 0 (space (CrOp-op op)) 0 (CrOp-funct4 op)))))))
+    Some (Ok (Short (word (layout kinds.Cr) (fields rd 0 rs2 0 0 (space (CrOp-op op)) 0 (CrOp-funct4 op))))))))
 
 abbrev pub cr2_type : List ℕ → Option Answer
 cr2_type t =
-    found (found (text_at t 1) cr_op) (λ op.
+    found (named_at t 1 cr_ops) (λ op.
     found (reg_at t 2) (λ rs1.
-    Some (Half (word (layout kinds.Cr2) (fields 0 rs1 0 0 0 (space (CrOp-op op)) 0 (CrOp-funct4 op))))))
+    Some (Ok (Short (word (layout kinds.Cr2) (fields 0 rs1 0 0 0 (space (CrOp-op op)) 0 (CrOp-funct4 op)))))))
 
 abbrev pub ca_type : List ℕ → Option Answer
 ca_type t =
-    found (found (text_at t 1) ca_op) (λ op.
+    found (named_at t 1 ca_ops) (λ op.
     found (short_at t 2) (λ rd.
     found (short_at t 3) (λ rs2.
-    Some (Half (word (layout kinds.Ca) (fields rd 0 rs2 0 0 (space (CaOp-op op)) (CaOp-funct2 op) (CaOp-funct6 op)))))))
+    Some (Ok (Short (word (layout kinds.Ca) (fields rd 0 rs2 0 0 (space (CaOp-op op)) (CaOp-funct2 op) (CaOp-funct6 op))))))))
 
 abbrev pub cj_type : List ℕ → Option Answer
 cj_type t =
-    found (found (text_at t 1) cj_op) (λ op.
+    found (named_at t 1 cj_ops) (λ op.
     found (integer_at t 2 2048) (λ z.
-    Some (half (jumped (space (CjOp-op op)) (CjOp-funct3 op) z))))
+    Some (among Short (jumped (space (CjOp-op op)) (CjOp-funct3 op) z))))
 
 abbrev pub ci_type : List ℕ → Option Answer
 ci_type t =
-    found (found (text_at t 1) ci_op) (λ op.
+    found (named_at t 1 ci_ops) (λ op.
     found (reg_at t 2) (λ rd.
     found (integer_at t 3 32) (λ z.
-    Some (Half (word (layout kinds.Ci) (fields rd 0 0 (twos 6 z) 0 (space (CiOp-op op)) (CiOp-funct3 op) 0))))))
+    Some (Ok (Short (word (layout kinds.Ci) (fields rd 0 0 (twos 6 z) 0 (space (CiOp-op op)) (CiOp-funct3 op) 0)))))))
 
 abbrev pub ci_sp_load : List ℕ → Option Answer
 ci_sp_load t =
-    found (found (text_at t 1) ci_op) (λ op.
+    found (named_at t 1 ci_ops) (λ op.
     found (reg_at t 2) (λ rd.
     found (natural_at t 3 64) (λ n.
-    Some (half (loaded (sp_load op) (fields rd 0 0 n 0 (space (CiOp-op op)) (CiOp-funct3 op) 0))))))
+    Some (among Short (loaded (sp_load op) (fields rd 0 0 n 0 (space (CiOp-op op)) (CiOp-funct3 op) 0))))))
 
 abbrev pub c_addi16sp : List ℕ → Option Answer
 c_addi16sp t =
     found (integer_at t 1 32) (λ z.
-    Some (Half (word (layout kinds.CiAddi16sp) (fields 0 0 0 (twos 6 z) 0 1 3 0))))
+    Some (Ok (Short (word (layout kinds.CiAddi16sp) (fields 0 0 0 (twos 6 z) 0 1 3 0)))))
 
 abbrev pub ciw_type : List ℕ → Option Answer
 ciw_type t =
-    found (found (text_at t 1) ciw_op) (λ op.
+    found (named_at t 1 ciw_ops) (λ op.
     found (short_at t 2) (λ rd.
     found (natural_at t 3 256) (λ n.
-    Some (Half (word (layout kinds.Ciw) (fields rd 0 0 n 0 (space (CiwOp-op op)) (CiwOp-funct3 op) 0))))))
+    Some (Ok (Short (word (layout kinds.Ciw) (fields rd 0 0 n 0 (space (CiwOp-op op)) (CiwOp-funct3 op) 0)))))))
 
 abbrev pub cb_type : List ℕ → Option Answer
 cb_type t =
-    found (found (text_at t 1) cb_op) (λ op.
+    found (named_at t 1 cb_ops) (λ op.
     found (short_at t 2) (λ rd.
     found (integer_at t 3 32) (λ z.
-    Some (Half (word (layout kinds.Cb) (fields rd 0 0 (twos 6 z) 0 (space (CbOp-op op)) (CbOp-funct3 op) (CbOp-funct2 op)))))))
+    Some (Ok (Short (word (layout kinds.Cb) (fields rd 0 0 (twos 6 z) 0 (space (CbOp-op op)) (CbOp-funct3 op) (CbOp-funct2 op))))))))
 
 abbrev pub css_type : List ℕ → Option Answer
 css_type t =
-    found (found (text_at t 1) css_op) (λ op.
+    found (named_at t 1 css_ops) (λ op.
     found (reg_at t 2) (λ src.
     found (natural_at t 3 64) (λ n.
-    Some (Half (word (layout (sp_store op)) (fields 0 0 src n 0 (space (CssOp-op op)) (CssOp-funct3 op) 0))))))
+    Some (Ok (Short (word (layout (sp_store op)) (fields 0 0 src n 0 (space (CssOp-op op)) (CssOp-funct3 op) 0)))))))
 
 abbrev pub cs_type : List ℕ → Option Answer
 cs_type t =
-    found (found (text_at t 1) cs_op) (λ op.
+    found (named_at t 1 cs_ops) (λ op.
     found (short_at t 2) (λ src.
     found (short_at t 3) (λ base.
     found (natural_at t 4 32) (λ n.
-    Some (Half (word (layout (store_kind op)) (fields 0 base src n 0 (space (CsOp-op op)) (CsOp-funct3 op) 0)))))))
+    Some (Ok (Short (word (layout (store_kind op)) (fields 0 base src n 0 (space (CsOp-op op)) (CsOp-funct3 op) 0))))))))
 
 abbrev pub cl_type : List ℕ → Option Answer
 cl_type t =
-    found (found (text_at t 1) cl_op) (λ op.
+    found (named_at t 1 cl_ops) (λ op.
     found (short_at t 2) (λ dest.
     found (short_at t 3) (λ base.
     found (natural_at t 4 32) (λ n.
-    Some (Half (word (layout (load_kind op)) (fields dest base 0 n 0 (space (ClOp-op op)) (ClOp-funct3 op) 0)))))))
+    Some (Ok (Short (word (layout (load_kind op)) (fields dest base 0 n 0 (space (ClOp-op op)) (ClOp-funct3 op) 0))))))))

@@ -1,12 +1,10 @@
 // The encoders by name.
 ghost use Rattle.std.specs.Prelude.{◌≡◌};
-ghost use Rattle.replay.specs.Operands.{found, text_at};
-ghost use Rattle.replay.specs.Lines.{wide_encoder, half_encoder, encoder_of, answer_by};
+ghost use Rattle.replay.specs.Lines.{encoders, answer_by};
 
 use crate::answer::Answer;
-use crate::operand::word;
+use crate::name::Named;
 use crate::{short_words, wide_words};
-use text::bytes::same;
 
 #[derive(Clone, Copy)]
 pub enum Encoder {
@@ -33,97 +31,49 @@ pub enum Encoder {
     ClType,
 }
 
-// An encoder of 32 bits.
-fn wide_encoder(t: &[u8]) -> Option<Encoder>
-    ensures { result ≡ wide_encoder t.now }
-{
-    if same(t, b"encode_r_type") {
-        Some(Encoder::RType)
-    } else if same(t, b"encode_i_type") {
-        Some(Encoder::IType)
-    } else if same(t, b"encode_s_type") {
-        Some(Encoder::SType)
-    } else if same(t, b"encode_valu") {
-        Some(Encoder::Valu)
-    } else if same(t, b"encode_valu_rrrr") {
-        Some(Encoder::ValuRrrr)
-    } else if same(t, b"encode_valu_rr_imm") {
-        Some(Encoder::ValuRrImm)
-    } else if same(t, b"encode_valu_rrr_imm") {
-        Some(Encoder::ValuRrrImm)
-    } else if same(t, b"encode_vmem_load") {
-        Some(Encoder::VmemLoad)
-    } else if same(t, b"encode_vmem_store") {
-        Some(Encoder::VmemStore)
-    } else {
-        None
-    }
-}
+impl Named for Encoder {
+    ghost names = { encoders };
 
-// An encoder of 16 bits.
-fn half_encoder(t: &[u8]) -> Option<Encoder>
-    ensures { result ≡ half_encoder t.now }
-{
-    if same(t, b"encode_cr_type") {
-        Some(Encoder::CrType)
-    } else if same(t, b"encode_cr2_type") {
-        Some(Encoder::Cr2Type)
-    } else if same(t, b"encode_ca_type") {
-        Some(Encoder::CaType)
-    } else if same(t, b"encode_cj_type") {
-        Some(Encoder::CjType)
-    } else if same(t, b"encode_ci_type") {
-        Some(Encoder::CiType)
-    } else if same(t, b"encode_ci_sp_load") {
-        Some(Encoder::CiSpLoad)
-    } else if same(t, b"encode_c_addi16sp") {
-        Some(Encoder::CAddi16sp)
-    } else if same(t, b"encode_ciw_type") {
-        Some(Encoder::CiwType)
-    } else if same(t, b"encode_cb_type") {
-        Some(Encoder::CbType)
-    } else if same(t, b"encode_css_type") {
-        Some(Encoder::CssType)
-    } else if same(t, b"encode_cs_type") {
-        Some(Encoder::CsType)
-    } else if same(t, b"encode_cl_type") {
-        Some(Encoder::ClType)
-    } else {
-        None
-    }
-}
-
-// The encoder that a text names.
-fn named(t: &[u8]) -> Option<Encoder>
-    ensures { result ≡ encoder_of t.now }
-{
-    match wide_encoder(t) {
-        Some(e) => Some(e),
-        None => half_encoder(t),
+    fn names() -> &'static [(&'static str, Encoder)] {
+        &[
+            ("encode_r_type", Encoder::RType),
+            ("encode_i_type", Encoder::IType),
+            ("encode_s_type", Encoder::SType),
+            ("encode_valu", Encoder::Valu),
+            ("encode_valu_rrrr", Encoder::ValuRrrr),
+            ("encode_valu_rr_imm", Encoder::ValuRrImm),
+            ("encode_valu_rrr_imm", Encoder::ValuRrrImm),
+            ("encode_vmem_load", Encoder::VmemLoad),
+            ("encode_vmem_store", Encoder::VmemStore),
+            ("encode_cr_type", Encoder::CrType),
+            ("encode_cr2_type", Encoder::Cr2Type),
+            ("encode_ca_type", Encoder::CaType),
+            ("encode_cj_type", Encoder::CjType),
+            ("encode_ci_type", Encoder::CiType),
+            ("encode_ci_sp_load", Encoder::CiSpLoad),
+            ("encode_c_addi16sp", Encoder::CAddi16sp),
+            ("encode_ciw_type", Encoder::CiwType),
+            ("encode_cb_type", Encoder::CbType),
+            ("encode_css_type", Encoder::CssType),
+            ("encode_cs_type", Encoder::CsType),
+            ("encode_cl_type", Encoder::ClType),
+        ]
     }
 }
 
 impl Encoder {
-    // The encoder that field `k` names.
-    pub fn of(line: &[u8], k: usize) -> Option<Encoder>
-        ensures { result ≡ found (text_at line.now k) encoder_of }
-    {
-        let t = word(line, k)?;
-        named(t)
-    }
-
     // What it answers to the operands of the line.
     pub fn answer(self, line: &[u8]) -> Option<Answer>
         ensures { result ≡ answer_by self line.now }
     {
+        // Stays: one arm an encoder, since a table of functions would say the same and name each twice.
         match self {
             Encoder::RType => wide_words::r(line),
             Encoder::IType => wide_words::i(line),
             Encoder::SType => wide_words::s(line),
             Encoder::Valu => wide_words::valu(line, 3, 4),
             Encoder::ValuRrrr => wide_words::valu(line, 4, 3),
-            Encoder::ValuRrImm => wide_words::valu_imm(line),
-            Encoder::ValuRrrImm => wide_words::valu_imm(line),
+            Encoder::ValuRrImm | Encoder::ValuRrrImm => wide_words::valu_imm(line),
             Encoder::VmemLoad => wide_words::vmem_load(line),
             Encoder::VmemStore => wide_words::vmem_store(line),
             Encoder::CrType => short_words::cr(line),

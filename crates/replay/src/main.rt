@@ -6,7 +6,7 @@ use crate::line::agrees;
 use crate::tally::counted;
 use std::io;
 use std::io::{Read, Write};
-use text::lines::line_at;
+use text::lines::Lines;
 
 mod answer;
 mod encoder;
@@ -19,13 +19,11 @@ mod wide_words;
 
 // Writes the lines whose word is not what the encoder answers.
 fn write_different<W: Write>(out: &mut W, text: &[u8]) -> io::Result<()> {
-    let mut at = 0;
-    while let Some(line) = line_at(text, at) {
+    for line in Lines::of(text).filter_map(Result::ok) {
         if !agrees(line) {
             out.write_all(line)?;
             out.write_all(b"\n")?;
         }
-        at += line.len() + 1;
     }
     Ok(())
 }

@@ -1,184 +1,181 @@
-// The operations and widths that the fields of a line name; none where a field is no such name.
-ghost use Rattle.std.specs.Prelude.{◌≡◌};
-ghost use Rattle.replay.specs.Operands.{found, text_at};
-ghost use Rattle.replay.specs.Names.{cr_op, ca_op, cj_op, ci_op, ciw_op, cb_op, css_op, cs_op, cl_op, width as width_of, form_named};
+// The operations and widths by name.
+ghost use Rattle.std.specs.Prelude.{◌≡◌, List, Option, ℕ, map};
+ghost use Rattle.std.specs.List.{find};
+ghost use Rattle.std.specs.Option.{option_map};
+ghost use Rattle.std.specs.Str.{bytes_eq};
+ghost use Rattle.text.specs.Fields.{text_of};
+ghost use Rattle.operations.specs.declared.row.Form.{Form as TheForm};
+ghost use Rattle.replay.specs.Names.{meant, form_of as form_called, cr_ops, ca_ops, cj_ops, ci_ops, ciw_ops, cb_ops, css_ops, cs_ops, cl_ops, widths};
 
-use crate::operand::word;
+use crate::operand::Operand;
 use args::{CaOp, CbOp, CiOp, CiwOp, CjOp, ClOp, CrOp, CsOp, CssOp, VecElementWidth};
 use operations::names::by_name;
 use operations::row::Form;
 use operations::table::form_of;
-use text::bytes::same;
+use text::fields::Field;
 
-pub fn cr_op(line: &[u8], k: usize) -> Option<CrOp>
-    ensures { result ≡ found (text_at line.now k) cr_op }
+// Values that have names.
+pub trait Named: Copy + 'static {
+    ghost names: { List (List ℕ × Self) };
+
+    // Each name, with what it stands for.
+    fn names() -> &'static [(&'static str, Self)]
+        ensures { map (λ e. (e.0.now, e.1)) result.now ≡ names };
+}
+
+// What the first entry of that name stands for.
+fn look_up<T: Copy>(names: &[(&str, T)], name: &[u8]) -> Option<T>
+    ensures { result ≡ option_map (λ e. e.1) (find (λ e. bytes_eq e.0.now name.now) names.now) }
 {
-    let t = word(line, k)?;
-    if same(t, b"CMv") {
-        Some(CrOp::CMv)
-    } else if same(t, b"CAdd") {
-        Some(CrOp::CAdd)
-    } else if same(t, b"CJr") {
-        Some(CrOp::CJr)
-    } else if same(t, b"CJalr") {
-        Some(CrOp::CJalr)
-    } else if same(t, b"CEbreak") {
-        Some(CrOp::CEbreak)
-    } else {
-        None
+    names.iter().find(|e| e.0.as_bytes() == name).map(|e| e.1)
+}
+
+// What a name stands for.
+fn called<T: Named>(name: &[u8]) -> Option<T>
+    ensures { result ≡ meant T.names name.now }
+{
+    look_up(T::names(), name)
+}
+
+impl<T: Named> Operand for T {
+    ghost Meaning = { T };
+
+    ghost meaning = { λ x. x };
+
+    ghost read = { λ p. meant T.names (text_of p) };
+
+    fn of(field: Field<'_>) -> Option<T> {
+        called(field.text())
     }
 }
 
-pub fn ca_op(line: &[u8], k: usize) -> Option<CaOp>
-    ensures { result ≡ found (text_at line.now k) ca_op }
-{
-    let t = word(line, k)?;
-    if same(t, b"CAnd") {
-        Some(CaOp::CAnd)
-    } else if same(t, b"COr") {
-        Some(CaOp::COr)
-    } else if same(t, b"CXor") {
-        Some(CaOp::CXor)
-    } else if same(t, b"CSub") {
-        Some(CaOp::CSub)
-    } else if same(t, b"CAddw") {
-        Some(CaOp::CAddw)
-    } else if same(t, b"CSubw") {
-        Some(CaOp::CSubw)
-    } else if same(t, b"CMul") {
-        Some(CaOp::CMul)
-    } else {
-        None
+// What the table says of the operation that a field names.
+impl Operand for Form {
+    ghost Meaning = { TheForm };
+
+    ghost meaning = { λ f. f };
+
+    ghost read = { λ p. form_called (text_of p) };
+
+    fn of(field: Field<'_>) -> Option<Form> {
+        let op = by_name(field.text())?;
+        Some(form_of(op))
     }
 }
 
-pub fn cj_op(line: &[u8], k: usize) -> Option<CjOp>
-    ensures { result ≡ found (text_at line.now k) cj_op }
-{
-    let t = word(line, k)?;
-    if same(t, b"CJ") { Some(CjOp::CJ) } else { None }
-}
+impl Named for CrOp {
+    ghost names = { cr_ops };
 
-pub fn ci_op(line: &[u8], k: usize) -> Option<CiOp>
-    ensures { result ≡ found (text_at line.now k) ci_op }
-{
-    let t = word(line, k)?;
-    if same(t, b"CAddi") {
-        Some(CiOp::CAddi)
-    } else if same(t, b"CAddiw") {
-        Some(CiOp::CAddiw)
-    } else if same(t, b"CAddi16sp") {
-        Some(CiOp::CAddi16sp)
-    } else if same(t, b"CLi") {
-        Some(CiOp::CLi)
-    } else if same(t, b"CLui") {
-        Some(CiOp::CLui)
-    } else if same(t, b"CSlli") {
-        Some(CiOp::CSlli)
-    } else if same(t, b"CLwsp") {
-        Some(CiOp::CLwsp)
-    } else if same(t, b"CLdsp") {
-        Some(CiOp::CLdsp)
-    } else if same(t, b"CFldsp") {
-        Some(CiOp::CFldsp)
-    } else {
-        None
+    fn names() -> &'static [(&'static str, CrOp)] {
+        &[
+            ("CMv", CrOp::CMv),
+            ("CAdd", CrOp::CAdd),
+            ("CJr", CrOp::CJr),
+            ("CJalr", CrOp::CJalr),
+            ("CEbreak", CrOp::CEbreak),
+        ]
     }
 }
 
-pub fn ciw_op(line: &[u8], k: usize) -> Option<CiwOp>
-    ensures { result ≡ found (text_at line.now k) ciw_op }
-{
-    let t = word(line, k)?;
-    if same(t, b"CAddi4spn") {
-        Some(CiwOp::CAddi4spn)
-    } else {
-        None
+impl Named for CaOp {
+    ghost names = { ca_ops };
+
+    fn names() -> &'static [(&'static str, CaOp)] {
+        &[
+            ("CAnd", CaOp::CAnd),
+            ("COr", CaOp::COr),
+            ("CXor", CaOp::CXor),
+            ("CSub", CaOp::CSub),
+            ("CAddw", CaOp::CAddw),
+            ("CSubw", CaOp::CSubw),
+            ("CMul", CaOp::CMul),
+        ]
     }
 }
 
-pub fn cb_op(line: &[u8], k: usize) -> Option<CbOp>
-    ensures { result ≡ found (text_at line.now k) cb_op }
-{
-    let t = word(line, k)?;
-    if same(t, b"CSrli") {
-        Some(CbOp::CSrli)
-    } else if same(t, b"CSrai") {
-        Some(CbOp::CSrai)
-    } else if same(t, b"CAndi") {
-        Some(CbOp::CAndi)
-    } else {
-        None
+impl Named for CjOp {
+    ghost names = { cj_ops };
+
+    fn names() -> &'static [(&'static str, CjOp)] {
+        &[("CJ", CjOp::CJ)]
     }
 }
 
-pub fn css_op(line: &[u8], k: usize) -> Option<CssOp>
-    ensures { result ≡ found (text_at line.now k) css_op }
-{
-    let t = word(line, k)?;
-    if same(t, b"CFsdsp") {
-        Some(CssOp::CFsdsp)
-    } else if same(t, b"CSwsp") {
-        Some(CssOp::CSwsp)
-    } else if same(t, b"CSdsp") {
-        Some(CssOp::CSdsp)
-    } else {
-        None
+impl Named for CiOp {
+    ghost names = { ci_ops };
+
+    fn names() -> &'static [(&'static str, CiOp)] {
+        &[
+            ("CAddi", CiOp::CAddi),
+            ("CAddiw", CiOp::CAddiw),
+            ("CAddi16sp", CiOp::CAddi16sp),
+            ("CLi", CiOp::CLi),
+            ("CLui", CiOp::CLui),
+            ("CSlli", CiOp::CSlli),
+            ("CLwsp", CiOp::CLwsp),
+            ("CLdsp", CiOp::CLdsp),
+            ("CFldsp", CiOp::CFldsp),
+        ]
     }
 }
 
-pub fn cs_op(line: &[u8], k: usize) -> Option<CsOp>
-    ensures { result ≡ found (text_at line.now k) cs_op }
-{
-    let t = word(line, k)?;
-    if same(t, b"CFsd") {
-        Some(CsOp::CFsd)
-    } else if same(t, b"CSw") {
-        Some(CsOp::CSw)
-    } else if same(t, b"CSd") {
-        Some(CsOp::CSd)
-    } else {
-        None
+impl Named for CiwOp {
+    ghost names = { ciw_ops };
+
+    fn names() -> &'static [(&'static str, CiwOp)] {
+        &[("CAddi4spn", CiwOp::CAddi4spn)]
     }
 }
 
-pub fn cl_op(line: &[u8], k: usize) -> Option<ClOp>
-    ensures { result ≡ found (text_at line.now k) cl_op }
-{
-    let t = word(line, k)?;
-    if same(t, b"CFld") {
-        Some(ClOp::CFld)
-    } else if same(t, b"CLw") {
-        Some(ClOp::CLw)
-    } else if same(t, b"CLd") {
-        Some(ClOp::CLd)
-    } else {
-        None
+impl Named for CbOp {
+    ghost names = { cb_ops };
+
+    fn names() -> &'static [(&'static str, CbOp)] {
+        &[
+            ("CSrli", CbOp::CSrli),
+            ("CSrai", CbOp::CSrai),
+            ("CAndi", CbOp::CAndi),
+        ]
     }
 }
 
-pub fn width(line: &[u8], k: usize) -> Option<VecElementWidth>
-    ensures { result ≡ found (text_at line.now k) width_of }
-{
-    let t = word(line, k)?;
-    if same(t, b"E8") {
-        Some(VecElementWidth::E8)
-    } else if same(t, b"E16") {
-        Some(VecElementWidth::E16)
-    } else if same(t, b"E32") {
-        Some(VecElementWidth::E32)
-    } else if same(t, b"E64") {
-        Some(VecElementWidth::E64)
-    } else {
-        None
+impl Named for CssOp {
+    ghost names = { css_ops };
+
+    fn names() -> &'static [(&'static str, CssOp)] {
+        &[
+            ("CFsdsp", CssOp::CFsdsp),
+            ("CSwsp", CssOp::CSwsp),
+            ("CSdsp", CssOp::CSdsp),
+        ]
     }
 }
 
-// What the table says of the operation that field `k` names.
-pub fn form(line: &[u8], k: usize) -> Option<Form>
-    ensures { result ≡ form_named line.now k }
-{
-    let t = word(line, k)?;
-    let op = by_name(t)?;
-    Some(form_of(op))
+impl Named for CsOp {
+    ghost names = { cs_ops };
+
+    fn names() -> &'static [(&'static str, CsOp)] {
+        &[("CFsd", CsOp::CFsd), ("CSw", CsOp::CSw), ("CSd", CsOp::CSd)]
+    }
+}
+
+impl Named for ClOp {
+    ghost names = { cl_ops };
+
+    fn names() -> &'static [(&'static str, ClOp)] {
+        &[("CFld", ClOp::CFld), ("CLw", ClOp::CLw), ("CLd", ClOp::CLd)]
+    }
+}
+
+impl Named for VecElementWidth {
+    ghost names = { widths };
+
+    fn names() -> &'static [(&'static str, VecElementWidth)] {
+        &[
+            ("E8", VecElementWidth::E8),
+            ("E16", VecElementWidth::E16),
+            ("E32", VecElementWidth::E32),
+            ("E64", VecElementWidth::E64),
+        ]
+    }
 }

@@ -4,9 +4,9 @@ ghost use Rattle.text.specs.Lines.{lines};
 ghost use Rattle.replay.specs.Tallies.{line_count, equal_count};
 
 use crate::line::agrees;
-use text::lines::line_at;
+use text::lines::Lines;
 
-#[derive(Clone, Copy)]
+#[derive(Clone, Copy, Default)]
 pub struct Tally {
     pub lines: usize,
     // lines whose word is what the encoder answers
@@ -18,16 +18,13 @@ pub fn counted(text: &[u8]) -> Tally
     ensures equal { result.equal ≡ equal_count (lines text.now) }
     ensures within { result.equal ≤ result.lines }
 {
-    let mut at = 0;
-    let mut count = 0;
-    let mut equal = 0;
-    while let Some(line) = line_at(text, at) {
-        count += 1;
-        equal += agrees(line) as usize;
-        at += line.len() + 1;
+    let mut tally = Tally::default();
+    // Stays: behind `filter_map` a step passes over any number of unended lines, and the counts of the lines left are not found.
+    for line in Lines::of(text) {
+        if let Ok(line) = line {
+            tally.lines += 1;
+            tally.equal += usize::from(agrees(line));
+        }
     }
-    Tally {
-        lines: count,
-        equal,
-    }
+    tally
 }

@@ -1,6 +1,6 @@
 // Why a program is not sealed.
 ghost use Rattle.std.specs.Prelude.{◌≡◌};
-ghost use Rattle.sealing.specs.Numbers.{refusal};
+ghost use Rattle.sealing.specs.Numbers.{cause_number, refusal};
 
 // What is wrong with a jump.
 #[derive(Clone, Copy, PartialEq, Eq, Debug)]
@@ -29,18 +29,27 @@ pub enum SealFault {
     Jump(BadJump),
 }
 
+impl JumpCause {
+    // The number of the refusal. Stays a number: callers are told it, as docs/REFUSALS.md lists it.
+    fn number(&self) -> u8
+        ensures { result ≡ cause_number self.now }
+    {
+        match self {
+            JumpCause::Unbound => 10,
+            JumpCause::OutOfReach => 11,
+            JumpCause::NoJump => 11,
+        }
+    }
+}
+
 impl SealFault {
-    // The number of the refusal.
+    // The number of the refusal. Stays a number: callers are told it, as docs/REFUSALS.md lists it.
     pub fn number(&self) -> u8
         ensures { result ≡ refusal self.now }
     {
         match self {
             SealFault::Full => 5,
-            SealFault::Jump(bad) => match bad.cause {
-                JumpCause::Unbound => 10,
-                JumpCause::OutOfReach => 11,
-                JumpCause::NoJump => 11,
-            },
+            SealFault::Jump(bad) => bad.cause.number(),
         }
     }
 }

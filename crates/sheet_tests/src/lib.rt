@@ -8,85 +8,67 @@ mod tests {
     use std::process::Abort;
     use std::test::Fail;
 
-    // A sheet and the text that answers it.
-    struct Case {
-        sheet: &'static str,
-        answer: &'static str,
+    // The bytes are as they were before.
+    fn untouched(rt: &impl Abort, name: &str, bytes: &[u8]) {
+        for b in bytes {
+            assert_eq!(rt; *b, 0xaa, "{name}");
+        }
     }
 
-    // The sheet is answered by that text, and the bytes of the output past it stay.
-    fn answered(rt: &impl Abort, name: &str, input: &[u8], answer: &[u8]) -> Result<(), Fail> {
-        let mut bytes = [0xaau8; 4096];
-        let output: &mut [u8] = &mut bytes;
+    // The sheet is answered by that text at the start of the output, whose bytes past it stay.
+    fn answered_in(
+        rt: &impl Abort,
+        name: &str,
+        output: &mut [u8],
+        input: &[u8],
+        answer: &[u8],
+    ) -> Result<(), Fail> {
         let taken = sheet(input, output);
         assert!(rt; taken.is_ok(), "{name}");
         let n = taken?;
-        assert_eq!(rt; &output[0..n], answer, "{name}");
-        for b in &output[n..] {
-            assert_eq!(rt; *b, 0xaa, "{name}");
-        }
+        assert_eq!(rt; &output[..n], answer, "{name}");
+        untouched(rt, name, &output[n..]);
         Ok(())
     }
 
-    // Every sheet of a table has its answer.
-    fn all(rt: &impl Abort, cases: &[Case]) -> Result<(), Fail> {
-        for case in cases {
-            answered(
-                rt,
-                case.sheet,
-                case.sheet.as_bytes(),
-                case.answer.as_bytes(),
-            )?;
+    // The same in the shortest output.
+    fn answered(rt: &impl Abort, name: &str, input: &[u8], answer: &[u8]) -> Result<(), Fail> {
+        answered_in(rt, name, &mut [0xaau8; 4096], input, answer)
+    }
+
+    // Every sheet of a table has the text beside it as its answer.
+    fn all(rt: &impl Abort, cases: &[(&str, &str)]) -> Result<(), Fail> {
+        for (sheet, answer) in cases {
+            answered(rt, sheet, sheet.as_bytes(), answer.as_bytes())?;
         }
         Ok(())
     }
 
     // Sheets that are taken.
-    const TAKEN: [Case; 11] = [
-        Case {
-            sheet: "op,d,a,b,n,m\nadd,3,1,2,,\n",
-            answer: "at,word\n0,002081b3\n",
-        },
-        Case {
-            sheet: "op,d,a,b,n,m\n",
-            answer: "at,word\n",
-        },
-        Case {
-            sheet: "m,n,b,a,d,op\n,,2,1,3,add\n",
-            answer: "at,word\n0,002081b3\n",
-        },
-        Case {
-            sheet: "a,op,n,d,m,b\n1,add,,3,,2\n",
-            answer: "at,word\n0,002081b3\n",
-        },
-        Case {
-            sheet: "op,d,a,b,n,m\nadd,,,,,\n",
-            answer: "at,word\n0,00000033\n",
-        },
-        Case {
-            sheet: "op,d,a,b,n,m\nadd,0,0,0,0,0\n",
-            answer: "at,word\n0,00000033\n",
-        },
-        Case {
-            sheet: "op,d,a,b,n,m\nadd,31,31,31,,\n",
-            answer: "at,word\n0,01ff8fb3\n",
-        },
-        Case {
-            sheet: "op,d,a,b,n,m\naddi,5,6,,2047,\naddi,5,6,,-2048,\n",
-            answer: "at,word\n0,7ff30293\n4,80030293\n",
-        },
-        Case {
-            sheet: "op,d,a,b,n,m\nlui,5,,,524287,\nlui,5,,,-524288,\n",
-            answer: "at,word\n0,7ffff2b7\n4,800002b7\n",
-        },
-        Case {
-            sheet: "op,d,a,b,n,m\nsd,,2,10,16,\nlw,10,2,,8,\n",
-            answer: "at,word\n0,00a13823\n4,00812503\n",
-        },
-        Case {
-            sheet: "op,d,a,b,n,m\njalr,,1,,,\nsub,10,11,12,,\nadd,3,1,2,,\n",
-            answer: "at,word\n0,00008067\n4,40c58533\n8,002081b3\n",
-        },
+    const TAKEN: [(&str, &str); 11] = [
+        ("op,d,a,b,n,m\nadd,3,1,2,,\n", "at,word\n0,002081b3\n"),
+        ("op,d,a,b,n,m\n", "at,word\n"),
+        ("m,n,b,a,d,op\n,,2,1,3,add\n", "at,word\n0,002081b3\n"),
+        ("a,op,n,d,m,b\n1,add,,3,,2\n", "at,word\n0,002081b3\n"),
+        ("op,d,a,b,n,m\nadd,,,,,\n", "at,word\n0,00000033\n"),
+        ("op,d,a,b,n,m\nadd,0,0,0,0,0\n", "at,word\n0,00000033\n"),
+        ("op,d,a,b,n,m\nadd,31,31,31,,\n", "at,word\n0,01ff8fb3\n"),
+        (
+            "op,d,a,b,n,m\naddi,5,6,,2047,\naddi,5,6,,-2048,\n",
+            "at,word\n0,7ff30293\n4,80030293\n",
+        ),
+        (
+            "op,d,a,b,n,m\nlui,5,,,524287,\nlui,5,,,-524288,\n",
+            "at,word\n0,7ffff2b7\n4,800002b7\n",
+        ),
+        (
+            "op,d,a,b,n,m\nsd,,2,10,16,\nlw,10,2,,8,\n",
+            "at,word\n0,00a13823\n4,00812503\n",
+        ),
+        (
+            "op,d,a,b,n,m\njalr,,1,,,\nsub,10,11,12,,\nadd,3,1,2,,\n",
+            "at,word\n0,00008067\n4,40c58533\n8,002081b3\n",
+        ),
     ];
 
     #[test]
@@ -95,63 +77,21 @@ mod tests {
     }
 
     // Sheets with a bad names line: none, no newline, a name missing, empty, twice, unknown, a seventh, with a blank.
-    const NAMES: [Case; 14] = [
-        Case {
-            sheet: "",
-            answer: "line,fault\n1,16\n",
-        },
-        Case {
-            sheet: "\n",
-            answer: "line,fault\n1,16\n",
-        },
-        Case {
-            sheet: "op,d,a,b,n,m",
-            answer: "line,fault\n1,16\n",
-        },
-        Case {
-            sheet: "op,d,a,b,n\n",
-            answer: "line,fault\n1,16\n",
-        },
-        Case {
-            sheet: "op,d,a,b,n,\n",
-            answer: "line,fault\n1,16\n",
-        },
-        Case {
-            sheet: "op,d,a,b,n,n\n",
-            answer: "line,fault\n1,16\n",
-        },
-        Case {
-            sheet: "op,d,a,b,n,x\n",
-            answer: "line,fault\n1,16\n",
-        },
-        Case {
-            sheet: "op,d,a,b,n,m,\n",
-            answer: "line,fault\n1,16\n",
-        },
-        Case {
-            sheet: "op,d,a,b,n,m,m\n",
-            answer: "line,fault\n1,16\n",
-        },
-        Case {
-            sheet: "op, d,a,b,n,m\n",
-            answer: "line,fault\n1,16\n",
-        },
-        Case {
-            sheet: "op,d,a,b,n,m \n",
-            answer: "line,fault\n1,16\n",
-        },
-        Case {
-            sheet: "op,d,a,b,n,M\n",
-            answer: "line,fault\n1,16\n",
-        },
-        Case {
-            sheet: "op,d,a,b,n,m\r\n",
-            answer: "line,fault\n1,16\n",
-        },
-        Case {
-            sheet: "add,3,1,2,,\nfoo\n",
-            answer: "line,fault\n1,16\n",
-        },
+    const NAMES: [(&str, &str); 14] = [
+        ("", "line,fault\n1,16\n"),
+        ("\n", "line,fault\n1,16\n"),
+        ("op,d,a,b,n,m", "line,fault\n1,16\n"),
+        ("op,d,a,b,n\n", "line,fault\n1,16\n"),
+        ("op,d,a,b,n,\n", "line,fault\n1,16\n"),
+        ("op,d,a,b,n,n\n", "line,fault\n1,16\n"),
+        ("op,d,a,b,n,x\n", "line,fault\n1,16\n"),
+        ("op,d,a,b,n,m,\n", "line,fault\n1,16\n"),
+        ("op,d,a,b,n,m,m\n", "line,fault\n1,16\n"),
+        ("op, d,a,b,n,m\n", "line,fault\n1,16\n"),
+        ("op,d,a,b,n,m \n", "line,fault\n1,16\n"),
+        ("op,d,a,b,n,M\n", "line,fault\n1,16\n"),
+        ("op,d,a,b,n,m\r\n", "line,fault\n1,16\n"),
+        ("add,3,1,2,,\nfoo\n", "line,fault\n1,16\n"),
     ];
 
     #[test]
@@ -160,47 +100,26 @@ mod tests {
     }
 
     // Lines with another number of fields than six, or without a newline: before any fault of their fields.
-    const COUNTS: [Case; 10] = [
-        Case {
-            sheet: "op,d,a,b,n,m\n\n",
-            answer: "line,fault\n2,17\n",
-        },
-        Case {
-            sheet: "op,d,a,b,n,m\nadd,3,1,2,,\n\n",
-            answer: "line,fault\n3,17\n",
-        },
-        Case {
-            sheet: "op,d,a,b,n,m\nadd,3,1,2,\n",
-            answer: "line,fault\n2,17\n",
-        },
-        Case {
-            sheet: "op,d,a,b,n,m\nadd,3,1,2,,,\n",
-            answer: "line,fault\n2,17\n",
-        },
-        Case {
-            sheet: "op,d,a,b,n,m\nfoo,3\n",
-            answer: "line,fault\n2,17\n",
-        },
-        Case {
-            sheet: "op,d,a,b,n,m\nadd,3,1,2,,",
-            answer: "line,fault\n2,17\n",
-        },
-        Case {
-            sheet: "op,d,a,b,n,m\nfoo,3,1,2,,",
-            answer: "line,fault\n2,17\n",
-        },
-        Case {
-            sheet: "op,d,a,b,n,m\nadd,3,1,2,,\nadd,3,1,2,,",
-            answer: "line,fault\n3,17\n",
-        },
-        Case {
-            sheet: "op,d,a,b,n,m\nfoo,3,1,2,,\nadd,3,1,2,,",
-            answer: "line,fault\n2,18\n",
-        },
-        Case {
-            sheet: "op,d,a,b,n,m\nadd,32,1,2,,\nadd,3,1,2,,",
-            answer: "line,fault\n2,1\n",
-        },
+    const COUNTS: [(&str, &str); 10] = [
+        ("op,d,a,b,n,m\n\n", "line,fault\n2,17\n"),
+        ("op,d,a,b,n,m\nadd,3,1,2,,\n\n", "line,fault\n3,17\n"),
+        ("op,d,a,b,n,m\nadd,3,1,2,\n", "line,fault\n2,17\n"),
+        ("op,d,a,b,n,m\nadd,3,1,2,,,\n", "line,fault\n2,17\n"),
+        ("op,d,a,b,n,m\nfoo,3\n", "line,fault\n2,17\n"),
+        ("op,d,a,b,n,m\nadd,3,1,2,,", "line,fault\n2,17\n"),
+        ("op,d,a,b,n,m\nfoo,3,1,2,,", "line,fault\n2,17\n"),
+        (
+            "op,d,a,b,n,m\nadd,3,1,2,,\nadd,3,1,2,,",
+            "line,fault\n3,17\n",
+        ),
+        (
+            "op,d,a,b,n,m\nfoo,3,1,2,,\nadd,3,1,2,,",
+            "line,fault\n2,18\n",
+        ),
+        (
+            "op,d,a,b,n,m\nadd,32,1,2,,\nadd,3,1,2,,",
+            "line,fault\n2,1\n",
+        ),
     ];
 
     #[test]
@@ -209,43 +128,19 @@ mod tests {
     }
 
     // Names that no operation has.
-    const UNKNOWN: [Case; 9] = [
-        Case {
-            sheet: "op,d,a,b,n,m\nfoo,3,1,2,,\n",
-            answer: "line,fault\n2,18\n",
-        },
-        Case {
-            sheet: "op,d,a,b,n,m\n,3,1,2,,\n",
-            answer: "line,fault\n2,18\n",
-        },
-        Case {
-            sheet: "op,d,a,b,n,m\nAdd,3,1,2,,\n",
-            answer: "line,fault\n2,18\n",
-        },
-        Case {
-            sheet: "op,d,a,b,n,m\nad,3,1,2,,\n",
-            answer: "line,fault\n2,18\n",
-        },
-        Case {
-            sheet: "op,d,a,b,n,m\naddd,3,1,2,,\n",
-            answer: "line,fault\n2,18\n",
-        },
-        Case {
-            sheet: "op,d,a,b,n,m\n add,3,1,2,,\n",
-            answer: "line,fault\n2,18\n",
-        },
-        Case {
-            sheet: "op,d,a,b,n,m\n7,3,1,2,,\n",
-            answer: "line,fault\n2,18\n",
-        },
-        Case {
-            sheet: "op,d,a,b,n,m\njall,1,,,4,\n",
-            answer: "line,fault\n2,18\n",
-        },
-        Case {
-            sheet: "op,d,a,b,n,m\nadd,3,1,2,,\nadd,3,1,2,,\nfoo,3,1,2,,\n",
-            answer: "line,fault\n4,18\n",
-        },
+    const UNKNOWN: [(&str, &str); 9] = [
+        ("op,d,a,b,n,m\nfoo,3,1,2,,\n", "line,fault\n2,18\n"),
+        ("op,d,a,b,n,m\n,3,1,2,,\n", "line,fault\n2,18\n"),
+        ("op,d,a,b,n,m\nAdd,3,1,2,,\n", "line,fault\n2,18\n"),
+        ("op,d,a,b,n,m\nad,3,1,2,,\n", "line,fault\n2,18\n"),
+        ("op,d,a,b,n,m\naddd,3,1,2,,\n", "line,fault\n2,18\n"),
+        ("op,d,a,b,n,m\n add,3,1,2,,\n", "line,fault\n2,18\n"),
+        ("op,d,a,b,n,m\n7,3,1,2,,\n", "line,fault\n2,18\n"),
+        ("op,d,a,b,n,m\njall,1,,,4,\n", "line,fault\n2,18\n"),
+        (
+            "op,d,a,b,n,m\nadd,3,1,2,,\nadd,3,1,2,,\nfoo,3,1,2,,\n",
+            "line,fault\n4,18\n",
+        ),
     ];
 
     #[test]
@@ -254,83 +149,35 @@ mod tests {
     }
 
     // Fields that are no number, or none of signed 64 bits.
-    const NUMBERS: [Case; 19] = [
-        Case {
-            sheet: "op,d,a,b,n,m\nadd,x3,1,2,,\n",
-            answer: "line,fault\n2,18\n",
-        },
-        Case {
-            sheet: "op,d,a,b,n,m\nadd,3,add,2,,\n",
-            answer: "line,fault\n2,18\n",
-        },
-        Case {
-            sheet: "op,d,a,b,n,m\nadd,3,1,007,,\n",
-            answer: "line,fault\n2,18\n",
-        },
-        Case {
-            sheet: "op,d,a,b,n,m\nadd,3,1,00,,\n",
-            answer: "line,fault\n2,18\n",
-        },
-        Case {
-            sheet: "op,d,a,b,n,m\nadd,3,1,2,-0,\n",
-            answer: "line,fault\n2,18\n",
-        },
-        Case {
-            sheet: "op,d,a,b,n,m\naddi,3,1,,-07,\n",
-            answer: "line,fault\n2,18\n",
-        },
-        Case {
-            sheet: "op,d,a,b,n,m\naddi,3,1,,-,\n",
-            answer: "line,fault\n2,18\n",
-        },
-        Case {
-            sheet: "op,d,a,b,n,m\naddi,3,1,,--1,\n",
-            answer: "line,fault\n2,18\n",
-        },
-        Case {
-            sheet: "op,d,a,b,n,m\naddi,3,1,,+5,\n",
-            answer: "line,fault\n2,18\n",
-        },
-        Case {
-            sheet: "op,d,a,b,n,m\naddi,3,1,,1.5,\n",
-            answer: "line,fault\n2,18\n",
-        },
-        Case {
-            sheet: "op,d,a,b,n,m\naddi,3,1,,0x10,\n",
-            answer: "line,fault\n2,18\n",
-        },
-        Case {
-            sheet: "op,d,a,b,n,m\nadd, 3,1,2,,\n",
-            answer: "line,fault\n2,18\n",
-        },
-        Case {
-            sheet: "op,d,a,b,n,m\nadd,3 ,1,2,,\n",
-            answer: "line,fault\n2,18\n",
-        },
-        Case {
-            sheet: "op,d,a,b,n,m\nadd,3,1,2,,\r\n",
-            answer: "line,fault\n2,18\n",
-        },
-        Case {
-            sheet: "op,d,a,b,n,m\nadd,3,1,2,,0\r\n",
-            answer: "line,fault\n2,18\n",
-        },
-        Case {
-            sheet: "op,d,a,b,n,m\nadd,9223372036854775808,1,2,,\n",
-            answer: "line,fault\n2,18\n",
-        },
-        Case {
-            sheet: "op,d,a,b,n,m\nadd,-9223372036854775809,1,2,,\n",
-            answer: "line,fault\n2,18\n",
-        },
-        Case {
-            sheet: "op,d,a,b,n,m\nadd,18446744073709551619,1,2,,\n",
-            answer: "line,fault\n2,18\n",
-        },
-        Case {
-            sheet: "op,d,a,b,n,m\nadd,32,1,2,5,x\n",
-            answer: "line,fault\n2,18\n",
-        },
+    const NUMBERS: [(&str, &str); 19] = [
+        ("op,d,a,b,n,m\nadd,x3,1,2,,\n", "line,fault\n2,18\n"),
+        ("op,d,a,b,n,m\nadd,3,add,2,,\n", "line,fault\n2,18\n"),
+        ("op,d,a,b,n,m\nadd,3,1,007,,\n", "line,fault\n2,18\n"),
+        ("op,d,a,b,n,m\nadd,3,1,00,,\n", "line,fault\n2,18\n"),
+        ("op,d,a,b,n,m\nadd,3,1,2,-0,\n", "line,fault\n2,18\n"),
+        ("op,d,a,b,n,m\naddi,3,1,,-07,\n", "line,fault\n2,18\n"),
+        ("op,d,a,b,n,m\naddi,3,1,,-,\n", "line,fault\n2,18\n"),
+        ("op,d,a,b,n,m\naddi,3,1,,--1,\n", "line,fault\n2,18\n"),
+        ("op,d,a,b,n,m\naddi,3,1,,+5,\n", "line,fault\n2,18\n"),
+        ("op,d,a,b,n,m\naddi,3,1,,1.5,\n", "line,fault\n2,18\n"),
+        ("op,d,a,b,n,m\naddi,3,1,,0x10,\n", "line,fault\n2,18\n"),
+        ("op,d,a,b,n,m\nadd, 3,1,2,,\n", "line,fault\n2,18\n"),
+        ("op,d,a,b,n,m\nadd,3 ,1,2,,\n", "line,fault\n2,18\n"),
+        ("op,d,a,b,n,m\nadd,3,1,2,,\r\n", "line,fault\n2,18\n"),
+        ("op,d,a,b,n,m\nadd,3,1,2,,0\r\n", "line,fault\n2,18\n"),
+        (
+            "op,d,a,b,n,m\nadd,9223372036854775808,1,2,,\n",
+            "line,fault\n2,18\n",
+        ),
+        (
+            "op,d,a,b,n,m\nadd,-9223372036854775809,1,2,,\n",
+            "line,fault\n2,18\n",
+        ),
+        (
+            "op,d,a,b,n,m\nadd,18446744073709551619,1,2,,\n",
+            "line,fault\n2,18\n",
+        ),
+        ("op,d,a,b,n,m\nadd,32,1,2,5,x\n", "line,fault\n2,18\n"),
     ];
 
     #[test]
@@ -380,87 +227,36 @@ mod tests {
     }
 
     // Fields that are numbers and yet refused: first any that is not used, then registers, then the constant.
-    const FIELDS: [Case; 20] = [
-        Case {
-            sheet: "op,d,a,b,n,m\nadd,3,1,2,5,\n",
-            answer: "line,fault\n2,3\n",
-        },
-        Case {
-            sheet: "op,d,a,b,n,m\nadd,3,1,2,,1\n",
-            answer: "line,fault\n2,3\n",
-        },
-        Case {
-            sheet: "op,d,a,b,n,m\nadd,32,1,2,5,\n",
-            answer: "line,fault\n2,3\n",
-        },
-        Case {
-            sheet: "op,d,a,b,n,m\naddi,3,1,2,,\n",
-            answer: "line,fault\n2,3\n",
-        },
-        Case {
-            sheet: "op,d,a,b,n,m\nsb,1,2,3,,\n",
-            answer: "line,fault\n2,3\n",
-        },
-        Case {
-            sheet: "op,d,a,b,n,m\nlui,1,-1,,,\n",
-            answer: "line,fault\n2,3\n",
-        },
-        Case {
-            sheet: "op,d,a,b,n,m\nadd,32,1,2,,\n",
-            answer: "line,fault\n2,1\n",
-        },
-        Case {
-            sheet: "op,d,a,b,n,m\nadd,3,32,2,,\n",
-            answer: "line,fault\n2,1\n",
-        },
-        Case {
-            sheet: "op,d,a,b,n,m\nadd,3,1,32,,\n",
-            answer: "line,fault\n2,1\n",
-        },
-        Case {
-            sheet: "op,d,a,b,n,m\nadd,-1,1,2,,\n",
-            answer: "line,fault\n2,1\n",
-        },
-        Case {
-            sheet: "op,d,a,b,n,m\nadd,3,-1,2,,\n",
-            answer: "line,fault\n2,1\n",
-        },
-        Case {
-            sheet: "op,d,a,b,n,m\nadd,3,1,-1,,\n",
-            answer: "line,fault\n2,1\n",
-        },
-        Case {
-            sheet: "op,d,a,b,n,m\nadd,-9223372036854775808,1,2,,\n",
-            answer: "line,fault\n2,1\n",
-        },
-        Case {
-            sheet: "op,d,a,b,n,m\nadd,9223372036854775807,1,2,,\n",
-            answer: "line,fault\n2,1\n",
-        },
-        Case {
-            sheet: "op,d,a,b,n,m\naddi,32,1,,2048,\n",
-            answer: "line,fault\n2,1\n",
-        },
-        Case {
-            sheet: "op,d,a,b,n,m\naddi,3,1,,2048,\n",
-            answer: "line,fault\n2,2\n",
-        },
-        Case {
-            sheet: "op,d,a,b,n,m\naddi,3,1,,-2049,\n",
-            answer: "line,fault\n2,2\n",
-        },
-        Case {
-            sheet: "op,d,a,b,n,m\nlui,3,,,524288,\n",
-            answer: "line,fault\n2,2\n",
-        },
-        Case {
-            sheet: "op,d,a,b,n,m\nlui,3,,,-524289,\n",
-            answer: "line,fault\n2,2\n",
-        },
-        Case {
-            sheet: "op,d,a,b,n,m\nadd,3,1,2,,\nsw,,1,2,2048,\nfoo,,,,,\n",
-            answer: "line,fault\n3,2\n",
-        },
+    const FIELDS: [(&str, &str); 20] = [
+        ("op,d,a,b,n,m\nadd,3,1,2,5,\n", "line,fault\n2,3\n"),
+        ("op,d,a,b,n,m\nadd,3,1,2,,1\n", "line,fault\n2,3\n"),
+        ("op,d,a,b,n,m\nadd,32,1,2,5,\n", "line,fault\n2,3\n"),
+        ("op,d,a,b,n,m\naddi,3,1,2,,\n", "line,fault\n2,3\n"),
+        ("op,d,a,b,n,m\nsb,1,2,3,,\n", "line,fault\n2,3\n"),
+        ("op,d,a,b,n,m\nlui,1,-1,,,\n", "line,fault\n2,3\n"),
+        ("op,d,a,b,n,m\nadd,32,1,2,,\n", "line,fault\n2,1\n"),
+        ("op,d,a,b,n,m\nadd,3,32,2,,\n", "line,fault\n2,1\n"),
+        ("op,d,a,b,n,m\nadd,3,1,32,,\n", "line,fault\n2,1\n"),
+        ("op,d,a,b,n,m\nadd,-1,1,2,,\n", "line,fault\n2,1\n"),
+        ("op,d,a,b,n,m\nadd,3,-1,2,,\n", "line,fault\n2,1\n"),
+        ("op,d,a,b,n,m\nadd,3,1,-1,,\n", "line,fault\n2,1\n"),
+        (
+            "op,d,a,b,n,m\nadd,-9223372036854775808,1,2,,\n",
+            "line,fault\n2,1\n",
+        ),
+        (
+            "op,d,a,b,n,m\nadd,9223372036854775807,1,2,,\n",
+            "line,fault\n2,1\n",
+        ),
+        ("op,d,a,b,n,m\naddi,32,1,,2048,\n", "line,fault\n2,1\n"),
+        ("op,d,a,b,n,m\naddi,3,1,,2048,\n", "line,fault\n2,2\n"),
+        ("op,d,a,b,n,m\naddi,3,1,,-2049,\n", "line,fault\n2,2\n"),
+        ("op,d,a,b,n,m\nlui,3,,,524288,\n", "line,fault\n2,2\n"),
+        ("op,d,a,b,n,m\nlui,3,,,-524289,\n", "line,fault\n2,2\n"),
+        (
+            "op,d,a,b,n,m\nadd,3,1,2,,\nsw,,1,2,2048,\nfoo,,,,,\n",
+            "line,fault\n3,2\n",
+        ),
     ];
 
     #[test]
@@ -469,75 +265,27 @@ mod tests {
     }
 
     // Vector and compressed operations: words, masks, overlaps, values that are not taken there, short registers; and a jump.
-    const RULES: [Case; 17] = [
-        Case {
-            sheet: "op,d,a,b,n,m\nVaddVV,1,3,2,,\nvle32,8,10,,,\nCMv,10,,11,,\nCLwsp,1,,,64,\n",
-            answer: "at,word\n0,022180d7\n4,02056407\n8,852e\n10,4086\n",
-        },
-        Case {
-            sheet: "op,d,a,b,n,m\nVmseqVV,0,3,2,,1\n",
-            answer: "at,word\n0,60218057\n",
-        },
-        Case {
-            sheet: "op,d,a,b,n,m\njal,1,,,8,\n",
-            answer: "line,fault\n2,3\n",
-        },
-        Case {
-            sheet: "op,d,a,b,n,m\nVaddVV,1,3,2,,2\n",
-            answer: "line,fault\n2,2\n",
-        },
-        Case {
-            sheet: "op,d,a,b,n,m\nVaddVV,0,3,2,,1\n",
-            answer: "line,fault\n2,4\n",
-        },
-        Case {
-            sheet: "op,d,a,b,n,m\nVwadduVV,1,1,2,,\n",
-            answer: "line,fault\n2,4\n",
-        },
-        Case {
-            sheet: "op,d,a,b,n,m\nVwadduWV,1,2,1,,\n",
-            answer: "line,fault\n2,4\n",
-        },
-        Case {
-            sheet: "op,d,a,b,n,m\nvle8,0,1,,,1\n",
-            answer: "line,fault\n2,4\n",
-        },
-        Case {
-            sheet: "op,d,a,b,n,m\nVmergeVVM,1,2,3,,\n",
-            answer: "line,fault\n2,3\n",
-        },
-        Case {
-            sheet: "op,d,a,b,n,m\nVmandMM,1,2,3,,1\n",
-            answer: "line,fault\n2,3\n",
-        },
-        Case {
-            sheet: "op,d,a,b,n,m\nVmvrV,8,,16,2,\n",
-            answer: "line,fault\n2,3\n",
-        },
-        Case {
-            sheet: "op,d,a,b,n,m\nCMv,10,,0,,\n",
-            answer: "line,fault\n2,3\n",
-        },
-        Case {
-            sheet: "op,d,a,b,n,m\nCLui,2,,,1,\n",
-            answer: "line,fault\n2,3\n",
-        },
-        Case {
-            sheet: "op,d,a,b,n,m\nCAddi,1,,,0,\n",
-            answer: "line,fault\n2,3\n",
-        },
-        Case {
-            sheet: "op,d,a,b,n,m\nCLw,7,8,,4,\n",
-            answer: "line,fault\n2,1\n",
-        },
-        Case {
-            sheet: "op,d,a,b,n,m\nCLw,8,8,,3,\n",
-            answer: "line,fault\n2,2\n",
-        },
-        Case {
-            sheet: "op,d,a,b,n,m\nCSlli,1,,,64,\n",
-            answer: "line,fault\n2,2\n",
-        },
+    const RULES: [(&str, &str); 17] = [
+        (
+            "op,d,a,b,n,m\nVaddVV,1,3,2,,\nvle32,8,10,,,\nCMv,10,,11,,\nCLwsp,1,,,64,\n",
+            "at,word\n0,022180d7\n4,02056407\n8,852e\n10,4086\n",
+        ),
+        ("op,d,a,b,n,m\nVmseqVV,0,3,2,,1\n", "at,word\n0,60218057\n"),
+        ("op,d,a,b,n,m\njal,1,,,8,\n", "line,fault\n2,3\n"),
+        ("op,d,a,b,n,m\nVaddVV,1,3,2,,2\n", "line,fault\n2,2\n"),
+        ("op,d,a,b,n,m\nVaddVV,0,3,2,,1\n", "line,fault\n2,4\n"),
+        ("op,d,a,b,n,m\nVwadduVV,1,1,2,,\n", "line,fault\n2,4\n"),
+        ("op,d,a,b,n,m\nVwadduWV,1,2,1,,\n", "line,fault\n2,4\n"),
+        ("op,d,a,b,n,m\nvle8,0,1,,,1\n", "line,fault\n2,4\n"),
+        ("op,d,a,b,n,m\nVmergeVVM,1,2,3,,\n", "line,fault\n2,3\n"),
+        ("op,d,a,b,n,m\nVmandMM,1,2,3,,1\n", "line,fault\n2,3\n"),
+        ("op,d,a,b,n,m\nVmvrV,8,,16,2,\n", "line,fault\n2,3\n"),
+        ("op,d,a,b,n,m\nCMv,10,,0,,\n", "line,fault\n2,3\n"),
+        ("op,d,a,b,n,m\nCLui,2,,,1,\n", "line,fault\n2,3\n"),
+        ("op,d,a,b,n,m\nCAddi,1,,,0,\n", "line,fault\n2,3\n"),
+        ("op,d,a,b,n,m\nCLw,7,8,,4,\n", "line,fault\n2,1\n"),
+        ("op,d,a,b,n,m\nCLw,8,8,,3,\n", "line,fault\n2,2\n"),
+        ("op,d,a,b,n,m\nCSlli,1,,,64,\n", "line,fault\n2,2\n"),
     ];
 
     #[test]
@@ -589,43 +337,34 @@ mod tests {
         )
     }
 
-    // A longer input and a shorter output are refused, and the output stays.
+    // The sizes are refused with this fault, whose number is 19, and the output stays.
+    fn refused(rt: &impl Abort, name: &str, input: &[u8], output: &mut [u8], fault: SizeFault) {
+        assert_eq!(rt; sheet(input, output), Err(fault), "{name}");
+        assert_eq!(rt; fault.number(), 19, "{name}");
+        untouched(rt, name, output);
+    }
+
+    // A longer input and a shorter output are refused; of both, the input.
     #[test]
     fn sizes(rt: HostRuntime) {
-        let mut short = [0xaau8; 4095];
-        assert_eq!(rt;
-            sheet(b"op,d,a,b,n,m\n", &mut short),
-            Err(SizeFault::Output(4095))
-        );
-        assert_eq!(rt;
-            sheet(&[b'\n'; 4097], &mut short),
-            Err(SizeFault::Input(4097))
-        );
-        for b in &short {
-            assert_eq!(rt; *b, 0xaa);
-        }
-        let mut enough = [0xaau8; 4096];
-        assert_eq!(rt;
-            sheet(&[b'\n'; 4097], &mut enough),
-            Err(SizeFault::Input(4097))
-        );
-        for b in &enough {
-            assert_eq!(rt; *b, 0xaa);
-        }
-        assert_eq!(rt; SizeFault::Input(4097).number(), 19);
-        assert_eq!(rt; SizeFault::Output(4095).number(), 19);
+        let names = b"op,d,a,b,n,m\n";
+        let long = [b'\n'; 4097];
+        let short = &mut [0xaau8; 4095];
+        let enough = &mut [0xaau8; 4096];
+        refused(&rt, "a short output", names, short, SizeFault::Output(4095));
+        refused(&rt, "both", &long, short, SizeFault::Input(4097));
+        refused(&rt, "a long input", &long, enough, SizeFault::Input(4097));
     }
 
     // A longer output: the bytes past the text stay.
     #[test]
     fn long_output(rt: HostRuntime) -> Result<(), Fail> {
-        let mut bytes = [0xaau8; 5000];
-        let output: &mut [u8] = &mut bytes;
-        let n = sheet(b"op,d,a,b,n,m\nadd,3,1,2,,\n", output)?;
-        assert_eq!(rt; &output[0..n], b"at,word\n0,002081b3\n".as_slice());
-        for b in &output[n..] {
-            assert_eq!(rt; *b, 0xaa);
-        }
-        Ok(())
+        answered_in(
+            &rt,
+            "a longer output",
+            &mut [0xaau8; 5000],
+            b"op,d,a,b,n,m\nadd,3,1,2,,\n",
+            b"at,word\n0,002081b3\n",
+        )
     }
 }

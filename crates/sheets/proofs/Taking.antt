@@ -1,10 +1,9 @@
 -- One line more behind a listing that stands in a store.
-use Rattle.std.proofs.Common.{◌≡◌, ℕ, ◌+◌, ◌≤◌, Bool, true, false, cond, leb, List, [], ◌∷◌, ◌++◌, length, take, drop, Some, None, Ok, Err, Option, Result, sym, refl, ap, ◌∙◌, subst, ap₂, append_assoc, append-nil, arith, length-append}
+use Rattle.std.proofs.Common.{◌≡◌, ℕ, suc, ◌+◌, ◌≤◌, Bool, true, false, cond, leb, List, [], ◌∷◌, ◌++◌, length, take, Some, None, Ok, Err, Option, Result, sym, refl, ap, ◌∙◌, subst, ap₂, append_assoc, append-nil, arith, length-append}
 use Rattle.std.proofs.lemmas.Bool.Decides.{nat_tests}
 use Rattle.store.specs.Puts.{applied, puts}
 use Rattle.store.proofs.Puts.{length-applied, take-applied-puts}
-use Rattle.text.specs.Lines.{lines, to_newline}
-use Rattle.text.proofs.Sheet.{next_line, last_line}
+use Rattle.text.specs.Lines.{Line, ended, unended}
 use Rattle.operations.specs.Manual.{form_at}
 use Rattle.instructions.specs.declared.fields.Fields.{Fields}
 use Rattle.instructions.specs.declared.fields.BuildFault.{BuildFault}
@@ -13,11 +12,11 @@ use Rattle.instructions.specs.Words.{halfwords_of}
 use Rattle.program.specs.declared.faults.EmitFault.{EmitFault}
 use Rattle.program.specs.declared.faults.EmitFault.TheVariants.{Build, Full}
 use Rattle.program.specs.Calls.{spaced, after_build, built_emitted}
+use Rattle.lines.specs.declared.columns.Columns.{Columns}
 use Rattle.lines.specs.declared.faults.LineFault.{LineFault}
-use Rattle.lines.specs.declared.faults.LineFault.TheVariants.{Names, Emit}
-use Rattle.lines.specs.Names.{named_columns}
+use Rattle.lines.specs.declared.faults.LineFault.TheVariants.{Emit}
 use Rattle.lines.specs.declared.faults.SheetFault.{SheetFault}
-use Rattle.sheets.specs.Listing.{Listing, halfs, taken, with_line, answered_line, said, by_columns, listed, Stands, Comes}
+use Rattle.sheets.specs.Listing.{Listing, halfs, taken, spoken, with_line, at_line, listed_from, answered_line, said, Stands, Comes}
 
 clash : {A E : Type 0} (P : Type 0) (x : A) (e : E) → ◌≡◌ {A = Result A E} (Err e) (Ok x) → P
 clash P x e q = absurd (let z : ◌≡◌ {A = ℕ} 0 1 = cc in omega arith)
@@ -30,14 +29,14 @@ pub halfs_one : (a : Listing) (x : ℕ × Fields) → halfs (a ++ (x ∷ [])) �
 halfs_one a x = halfs-append a (x ∷ []) ∙ ap (λ t. halfs a ++ t) (append-nil (halfwords_of x.0 x.1))
 
 -- what is emitted finds its space
-spaced_fits : (room used n : ℕ) → spaced room used n ≡ Ok tt → used + n ≤ room
+spaced_fits : (room used n : ℕ) → spaced Full room used n ≡ Ok tt → used + n ≤ room
 spaced_fits room used n e = go (leb (used + n) room) refl e
   where
     go : (b : Bool) → leb (used + n) room ≡ b → ◌≡◌ {A = Result (Unit {0}) EmitFault} (cond b (Ok tt) (Err Full)) (Ok tt) → used + n ≤ room
     go true t e = grind (arith, nat_tests)
     go false t e = clash (used + n ≤ room) tt Full e
 
-built_fits : (room used n : ℕ) (o : Option BuildFault) → after_build o (spaced room used n) ≡ Ok tt → used + n ≤ room
+built_fits : (room used n : ℕ) (o : Option BuildFault) → after_build o (spaced Full room used n) ≡ Ok tt → used + n ≤ room
 built_fits room used n None e = spaced_fits room used n e
 built_fits room used n (Some b) e = clash (used + n ≤ room) tt (Build b) e
 
@@ -90,27 +89,35 @@ comes_err x e room used hs q = subst (λ y. Comes y (Err e) room used hs) (sym q
 pub comes_ok : (x : Result Listing SheetFault) (listing : Listing) (room used : ℕ) (hs : List ℕ) → x ≡ Ok listing → Stands listing room used hs → Comes x (Ok tt) room used hs
 comes_ok x listing room used hs q s = subst (λ y. Comes y (Ok tt) room used hs) (sym q) (refl, s)
 
-pub came_err : (x : Result Listing SheetFault) (e : SheetFault) (room used : ℕ) (hs : List ℕ) → Comes x (Err e) room used hs → x ≡ Err e
-came_err (Ok listing) e room used hs h = clash (Ok listing ≡ Err e) tt e h.0
-came_err (Err f) e room used hs h = let q : f ≡ e = let s = h in cc in ap Err q
+-- ---- the lines one after another
 
-pub came_ok : (x : Result Listing SheetFault) (room used : ℕ) (hs : List ℕ) → Comes x (Ok tt) room used hs → (listing : Listing) × ((x ≡ Ok listing) × Stands listing room used hs)
-came_ok (Ok listing) room used hs h = (listing, (refl, h.1))
-came_ok (Err f) room used hs h = clash ((listing : Listing) × ((Err f ≡ Ok listing) × Stands listing room used hs)) tt f (sym h)
+listed_more : (room : ℕ) (c : Columns) (n : ℕ) (before : Listing) (l : Line) (ls : List Line) → listed_from room c n before (l ∷ ls) ≡ at_line n (with_line room before (spoken c l)) (λ after. listed_from room c (suc n) after ls)
+listed_more room c n before (ended t) ls = refl
+listed_more room c n before (unended t) ls = refl
 
--- ---- the first line
+-- a refused line gives its fault, with its number
+pub stops : (room : ℕ) (c : Columns) (n : ℕ) (before : Listing) (l : Line) (ls : List Line) (d : LineFault) → with_line room before (spoken c l) ≡ Err d → listed_from room c n before (l ∷ ls) ≡ Err (record { line = n; fault = d })
+stops room c n before l ls d e =
+    listed_more room c n before l ls ∙ ap (λ x. at_line n x (λ after. listed_from room c (suc n) after ls)) e
 
-at_start : (bytes : List ℕ) → drop 0 bytes ≡ bytes
-at_start [] = refl
-at_start (x ∷ xs) = refl
+-- behind a line that is taken come the others
+pub goes_on : (room : ℕ) (c : Columns) (n : ℕ) (before after : Listing) (l : Line) (ls : List Line) → with_line room before (spoken c l) ≡ Ok after → listed_from room c n before (l ∷ ls) ≡ listed_from room c (suc n) after ls
+goes_on room c n before after l ls e =
+    listed_more room c n before l ls ∙ ap (λ x. at_line n x (λ y. listed_from room c (suc n) y ls)) e
 
-pub headed : (room : ℕ) (bytes t : List ℕ) → to_newline (drop 0 bytes) ≡ Some t → listed room (lines bytes) ≡ by_columns room (named_columns t) (lines (drop (length t + 1) bytes))
-headed room bytes t e =
-    let n : 0 + length t + 1 ≡ length t + 1 = omega arith in
-    ap (λ xs. listed room (lines xs)) (sym (at_start bytes))
-    ∙ ap (listed room) (next_line bytes 0 t e)
-    ∙ ap (λ k. by_columns room (named_columns t) (lines (drop k bytes))) n
+pub numbered_ok : (n : ℕ) (r : Result (Unit {0}) LineFault) (x : Unit {0}) → ◌≡◌ {A = Result (Unit {0}) SheetFault} (at_line n r (λ u. Ok u)) (Ok x) → r ≡ Ok tt
+numbered_ok n (Ok u) x e = refl
+numbered_ok n (Err d) x e = clash (◌≡◌ {A = Result (Unit {0}) LineFault} (Err d) (Ok tt)) x (record { line = n; fault = d }) e
 
-pub no_names : (room : ℕ) (bytes : List ℕ) → to_newline (drop 0 bytes) ≡ None → listed room (lines bytes) ≡ Err (record { line = 1; fault = Names })
-no_names room [] e = refl
-no_names room (x ∷ xs) e = ap (listed room) (last_line (x ∷ xs) 0 e (omega arith))
+-- a fault, and the line's fault in it
+pub record Numbered (n : ℕ) (r : Result (Unit {0}) LineFault) (f : SheetFault) : Type 0 where
+  pub fault : LineFault
+  pub was : r ≡ Err fault
+  pub line : n ≡ f.line
+  pub same : fault ≡ f.fault
+
+pub numbered_err : (n : ℕ) (r : Result (Unit {0}) LineFault) (f : SheetFault) → ◌≡◌ {A = Result (Unit {0}) SheetFault} (at_line n r (λ u. Ok u)) (Err f) → Numbered n r f
+numbered_err n (Ok u) f e = clash (Numbered n (Ok u) f) u f (sym e)
+numbered_err n (Err d) f e =
+    let q : ◌≡◌ {A = SheetFault} (record { line = n; fault = d }) f = cc in
+    record { fault = d; was = refl; line = ap (λ (x : SheetFault). x.line) q; same = ap (λ (x : SheetFault). x.fault) q }

@@ -31,6 +31,16 @@ abbrev pub with_line : ℕ → Listing → Result (ℕ × Fields) LineFault → 
 with_line room before (Ok x) = taken (built_emitted room (length (halfs before)) x.0 x.1) (before ++ (x ∷ []))
 with_line room before (Err e) = Err e
 
+-- the columns that a line names, if it is ended
+abbrev pub named_by : Line → Option Columns
+named_by (ended t) = named_columns t
+named_by (unended t) = None
+
+-- what a line says, if it is ended
+abbrev pub spoken : Columns → Line → Result (ℕ × Fields) LineFault
+spoken c (ended t) = lined c t
+spoken c (unended t) = Err NoNewline
+
 -- a fault gets its line's number
 abbrev pub at_line : {A B : Type 0} → ℕ → Result A LineFault → (A → Result B SheetFault) → Result B SheetFault
 at_line n (Ok x) k = k x

@@ -1,11 +1,10 @@
 // A sheet's lines, taken into a program one after the other.
-ghost use Rattle.std.specs.Prelude.{◌≡◌, ◌+◌, ◌<◌, ◌≤◌, [], length, drop, Ok, Err};
+ghost use Rattle.std.specs.Prelude.{◌≡◌, ◌+◌, ◌≤◌, [], length, Ok};
 ghost use Rattle.store.specs.Answers.{when};
 ghost use Rattle.store.specs.Puts.{applied, puts};
-ghost use Rattle.text.specs.Lines.{lines};
-ghost use Rattle.lines.specs.Lines.{lined};
-ghost use Rattle.program.specs.Calls.{none};
-ghost use Rattle.sheets.specs.Listing.{answered_line, said, listed_from, listed, Comes};
+ghost use Rattle.text.specs.Given.{given};
+ghost use Rattle.text.specs.Lines as text_lines;
+ghost use Rattle.sheets.specs.Listing.{spoken, named_by, at_line, answered_line, said, listed_from, listed, Comes};
 ghost use Rattle.sheets.specs.Assembled.{Assembled};
 
 use lines::columns::Columns;
@@ -13,74 +12,71 @@ use lines::faults::{LineFault, SheetFault};
 use lines::line::Line;
 use program::open::Open;
 use store::store::Store;
-use text::lines::line_at;
+use text::lines::{Lines, Unended};
 
 // Takes one line.
 fn take_line<S: Store>(
     program: &mut Open,
     store: &mut S,
     columns: &Columns,
-    line: &[u8],
+    line: Result<&[u8], Unended<'_>>,
 ) -> Result<(), LineFault>
-    ensures answer { result ≡ answered_line (length (S.halfwords store.old)) program.old.counts.used (lined columns.now line.now) }
-    ensures used { program.new.counts.used ≡ when result (program.old.counts.used + length (said (lined columns.now line.now))) program.old.counts.used }
-    ensures after { S.halfwords store.new ≡ applied (when result (puts program.old.counts.used (said (lined columns.now line.now))) []) (S.halfwords store.old) }
+    ensures answer { result ≡ answered_line (length (S.halfwords store.old)) program.old.counts.used (spoken columns.now (given line.entry)) }
+    ensures used { program.new.counts.used ≡ when result (program.old.counts.used + length (said (spoken columns.now (given line.entry)))) program.old.counts.used }
+    ensures after { S.halfwords store.new ≡ applied (when result (puts program.old.counts.used (said (spoken columns.now (given line.entry)))) []) (S.halfwords store.old) }
 {
-    let l = Line::of(columns, line)?;
+    let l = Line::of(columns, line?)?;
     program.emit_fields(store, l.op, l.fields)?;
     Ok(())
 }
 
-// Takes the lines from the byte `from` on, the first of which has the number 2.
+// What came of a line, with the line's number at a fault.
+fn numbered(number: u32, taken: Result<(), LineFault>) -> Result<(), SheetFault>
+    ensures { result ≡ at_line number taken Ok }
+{
+    taken.map_err(|fault| SheetFault {
+        line: number,
+        fault,
+    })
+}
+
+// Takes the lines, the first of which has the number 2.
 fn take_lines<S: Store>(
     program: &mut Open,
     store: &mut S,
     columns: &Columns,
-    input: &[u8],
-    from: usize,
+    lines: Lines<'_>,
 ) -> Result<(), SheetFault>
     requires empty { program.old.counts.used ≡ 0 }
-    requires begun { 0 < from }
-    requires short { length input.now ≤ 4096 }
-    ensures { Comes (listed_from (length (S.halfwords store.old)) columns.now 2 [] (lines (drop from input.now))) result (length (S.halfwords store.old)) program.new.counts.used (S.halfwords store.new) }
+    requires short { length (text_lines.lines lines.rest.now) ≤ 4096 }
+    ensures { Comes (listed_from (length (S.halfwords store.old)) columns.now 2 [] (text_lines.lines lines.entry.rest.now)) result (length (S.halfwords store.old)) program.new.counts.used (S.halfwords store.new) }
 {
-    let mut at = from;
-    let mut number = 2;
-    while at < input.len() {
-        let Some(line) = line_at(input, at) else {
-            return Err(SheetFault {
-                line: number,
-                fault: LineFault::NoNewline,
-            });
-        };
-        if let Err(fault) = take_line(program, store, columns, line) {
-            return Err(SheetFault {
-                line: number,
-                fault,
-            });
-        }
-        at += line.len() + 1;
-        number += 1;
+    for (index, line) in lines.enumerate() {
+        let number = index as u32 + 2;
+        numbered(number, take_line(program, store, columns, line))?;
     }
     Ok(())
+}
+
+// The columns that a line names, if it is ended.
+fn columns_of(line: Result<&[u8], Unended<'_>>) -> Option<Columns>
+    ensures { result ≡ named_by (given line.entry) }
+{
+    Columns::of(line.ok()?)
 }
 
 // Takes a sheet into a program.
 pub(crate) fn assemble<S: Store>(input: &[u8], store: &mut S) -> Result<Open, SheetFault>
     requires { length input.now ≤ 4096 }
-    ensures { Assembled (listed (length (S.halfwords store.old)) (lines input.now)) result (length (S.halfwords store.old)) (S.halfwords store.new) }
+    ensures { Assembled (listed (length (S.halfwords store.old)) (text_lines.lines input.now)) result (length (S.halfwords store.old)) (S.halfwords store.new) }
 {
     let names = SheetFault {
         line: 1,
         fault: LineFault::Names,
     };
-    let Some(first) = line_at(input, 0) else {
-        return Err(names);
-    };
-    let Some(columns) = Columns::of(first) else {
-        return Err(names);
-    };
+    let mut lines = Lines::of(input);
+    let columns = lines.next().and_then(columns_of).ok_or(names)?;
     let mut program = Open::new();
-    take_lines(&mut program, store, &columns, input, first.len() + 1)?;
+    take_lines(&mut program, store, &columns, lines)?;
     Ok(program)
 }

@@ -11,13 +11,12 @@ pub enum SizeFault {
 }
 
 impl SizeFault {
-    // The number of the refusal.
+    // The number of the refusal. Stays a number: callers are told it, as docs/REFUSALS.md lists it.
     pub fn number(&self) -> u8
         ensures { result ≡ refusal self.now }
     {
         match self {
-            SizeFault::Input(_) => 19,
-            SizeFault::Output(_) => 19,
+            SizeFault::Input(_) | SizeFault::Output(_) => 19,
         }
     }
 }

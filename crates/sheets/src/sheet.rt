@@ -9,19 +9,17 @@ use crate::faults::SizeFault;
 use printing::faults::print_fault;
 use printing::words::print_words;
 use store::built_in::BuiltIn;
+use text::writing::Text;
 
-// Writes a sheet's answer.
-fn write_answer(input: &[u8], output: &mut [u8]) -> usize
-    requires short { length input.now ≤ 4096 }
-    requires room { 4096 ≤ length output.old }
-    ensures end { result ≡ length (answer input.now) }
-    ensures short { result ≤ 4096 }
-    ensures after { output.new ≡ overwritten output.old 0 (answer input.now) }
+// The text that answers a sheet.
+fn answer(input: &[u8]) -> Text<4096>
+    requires { length input.now ≤ 4096 }
+    ensures { result ≡ answer input.now }
 {
     let mut store = BuiltIn::new();
     match assemble(input, &mut store) {
-        Ok(program) => print_words(&store, program.used(), output),
-        Err(fault) => print_fault(fault.line, fault.number(), output),
+        Ok(program) => print_words(&store, program.used()),
+        Err(fault) => print_fault(fault.line, fault.number()),
     }
 }
 
@@ -38,5 +36,5 @@ pub fn sheet(input: &[u8], output: &mut [u8]) -> Result<usize, SizeFault>
     if output.len() < 4096 {
         return Err(SizeFault::Output(output.len()));
     }
-    Ok(write_answer(input, output))
+    Ok(answer(input).copy_to(output))
 }

@@ -1,1 +1,2 @@
 pub mod Operands
+pub mod Laws

@@ -1,27 +1,28 @@
 // bit 0 up: opcode 0-1 | imm[4:0] 2-6 | rd 7-9 | funct2 10-11 | imm[5] 12 | funct3 13-15
-ghost use Rattle.std.specs.Prelude.{◌≡◌, ℕ, true};
+ghost use Rattle.std.specs.Prelude.{true};
 ghost use Rattle.formats.specs.declared.kind.Kind.TheVariants.{Cb as Cb-kind};
-ghost use Rattle.short.specs.Operands.{Cb-values, Cb-fault, Cb-codes};
-ghost use Rattle.std.proofs.Common.{lit<, ap, rules};
-ghost use Rattle.operands.proofs.Sames.{imm6_lt, same_imm6, same_short, imm6_of, imm6_of_bits};
-ghost use Rattle.formats.specs.declared.kind.Kind.TheVariants as kinds;
-ghost use Rattle.formats.specs.Layouts.{layout};
-ghost use Rattle.formats.proofs.Codes.{narrow, none_wide, none_there};
-ghost use Rattle.formats.proofs.Sound.{fit_of};
-ghost use Rattle.bits.specs.declared.part.Values.{Values};
-ghost use Rattle.bits.specs.declared.part.Field.TheVariants.{D, A, B, N, M, Opcode, Funct3, Funct};
-ghost use Rattle.short.specs.declared.operands_of.CbOperands.{CbOperands};
+ghost use Rattle.short.specs.Operands.{Cb-values, Cb-fault};
+ghost use Rattle.short.specs.Laws.{Cb-fits, Cb-known, Cb-held};
+ghost use Rattle.std.proofs.Common.{rules};
 
 use crate::operands_of::CbOperands;
-use bits::fields::{cut, put};
-use bits::part::Values;
-use formats::faults::WideCode;
+use bits::layout::Layout;
+use bits::part::{Field, Part, Values};
+use formats::faults::{WideCode, narrow};
 use formats::format::Format;
-use formats::kind::Kind;
 use operands::imms::Imm6;
 use operands::regs::ShortNum;
 
 pub struct Cb;
+
+const PARTS: [Part; 6] = [
+    Part::Slice(Field::Opcode, 0, 2),
+    Part::Slice(Field::N, 0, 5),
+    Part::Slice(Field::D, 0, 3),
+    Part::Slice(Field::Funct, 0, 2),
+    Part::Slice(Field::N, 5, 1),
+    Part::Slice(Field::Funct3, 0, 3),
+];
 
 impl Format for Cb {
     type Operands = CbOperands;
@@ -34,52 +35,22 @@ impl Format for Cb {
 
     ghost allows = { λ v. true };
 
-    ghost fits = { λ o e.
-        let c = narrow (Cb-codes o) e in
-        fit_of (layout kinds.Cb) (Cb-values o) o.rd.ok (lit< tt) (lit< tt) (imm6_lt o.imm) (lit< tt) c.0 c.1.1.0 c.1.0 };
+    ghost fits = { Cb-fits };
 
-    ghost known = { λ o p e.
-        let at : (f : Values → ℕ) → f (Cb-values o) ≡ f (Cb-values p) = λ f. ap f e in
-        λ i. record {
-          opcode = at (λ v. v.opcode) i;
-          imm = same_imm6 o.imm p.imm (at (λ v. v.n)) i;
-          rd = same_short o.rd p.rd (at (λ v. v.d)) i;
-          funct2 = at (λ v. v.funct) i;
-          funct3 = at (λ v. v.funct3) i;
-        } };
+    ghost known = { Cb-known };
 
     ghost allowed = { Prim.search rules };
 
-    ghost held = { λ v h t.
-        let o : CbOperands = record { opcode = v.opcode; imm = imm6_of v.n (h N); rd = record { value = v.d; ok = h D }; funct2 = v.funct; funct3 = v.funct3 } in
-        (o, (none_wide (Cb-codes o) (h Opcode, (h Funct, (h Funct3, tt))), λ i. record { d = v.d; a = none_there v.a (h A) i; b = none_there v.b (h B) i; n = imm6_of_bits v.n (h N) i; m = none_there v.m (h M) i; opcode = v.opcode; funct3 = v.funct3; funct = v.funct })) };
+    ghost held = { Cb-held };
 
-    fn kind_of() -> Kind {
-        Kind::Cb
+    fn layout() -> Layout<'static> {
+        Layout { parts: &PARTS }
     }
 
-    fn halfwords() -> usize {
-        1
-    }
-
-    fn encode(o: &CbOperands) -> Result<u32, WideCode> {
-        if o.opcode >= 4 {
-            return Err(WideCode::Opcode(o.opcode));
-        }
-        if o.funct2 >= 4 {
-            return Err(WideCode::Funct2(o.funct2));
-        }
-        if o.funct3 >= 8 {
-            return Err(WideCode::Funct3(o.funct3));
-        }
-        let imm = o.imm.bits() as u32;
-        let mut bits = o.opcode;
-        bits = put(bits, cut(imm, 0, 5), 2, 5);
-        bits = put(bits, o.rd.value(), 7, 3);
-        bits = put(bits, o.funct2, 10, 2);
-        bits = put(bits, cut(imm, 5, 1), 12, 1);
-        bits = put(bits, o.funct3, 13, 3);
-        Ok(bits)
+    fn check(o: &CbOperands) -> Result<(), WideCode> {
+        narrow(WideCode::Opcode(o.opcode), 2)?;
+        narrow(WideCode::Funct2(o.funct2), 2)?;
+        narrow(WideCode::Funct3(o.funct3), 3)
     }
 
     fn split(o: &CbOperands) -> Values {
@@ -87,7 +58,7 @@ impl Format for Cb {
             d: o.rd.value(),
             a: 0,
             b: 0,
-            n: o.imm.bits() as u32,
+            n: u32::from(o.imm.bits()),
             m: 0,
             opcode: o.opcode,
             funct3: o.funct3,

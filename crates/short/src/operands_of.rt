@@ -1,4 +1,5 @@
 // The operands of each format: registers and constants in their range, and plain codes.
+// Stays: CR with two registers, with one and with none are three, since one type would hold registers that a word lacks.
 use operands::imms::{Imm6, Uimm8};
 use operands::regs::{RegNum, ShortNum};
 

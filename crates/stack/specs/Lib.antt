@@ -1,1 +1,3 @@
 pub mod Operands
+pub mod Spans
+pub mod Laws

@@ -2,8 +2,6 @@
 #![tactic(auto)]
 
 pub mod ci_addi16sp;
-pub mod ci_ldsp;
-pub mod ci_lwsp;
-pub mod css_double;
-pub mod css_word;
+pub mod ci_load;
+pub mod css;
 pub mod operands_of;

@@ -1,17 +1,10 @@
 // The operands of each format: registers and constants in their range, and plain codes.
+// Stays: three structs, since each lacks an operand that another has, or reads its constant with a sign.
 use operands::imms::{Imm6, Uimm6};
 use operands::regs::RegNum;
 
 #[derive(Clone, Copy)]
-pub struct CiLwspOperands {
-    pub opcode: u32,
-    pub imm: Uimm6,
-    pub rd: RegNum,
-    pub funct3: u32,
-}
-
-#[derive(Clone, Copy)]
-pub struct CiLdspOperands {
+pub struct CiLoadOperands {
     pub opcode: u32,
     pub imm: Uimm6,
     pub rd: RegNum,
@@ -26,15 +19,7 @@ pub struct CiAddi16spOperands {
 }
 
 #[derive(Clone, Copy)]
-pub struct CssWordOperands {
-    pub opcode: u32,
-    pub src: RegNum,
-    pub imm: Uimm6,
-    pub funct3: u32,
-}
-
-#[derive(Clone, Copy)]
-pub struct CssDoubleOperands {
+pub struct CssOperands {
     pub opcode: u32,
     pub src: RegNum,
     pub imm: Uimm6,

@@ -1,12 +1,8 @@
 -- Laws of a part of a list. Assumes nothing.
-use Rattle.std.proofs.Common.{◌≡◌, ℕ, ◌+◌, ◌-◌, ◌<◌, min, List, length, take, drop, set, Some, Ok, Err, Result, sym, ap, ◌∙◌, arith, length-drop, length-take}
+use Rattle.std.proofs.Common.{◌≡◌, ℕ, ◌+◌, ◌-◌, ◌<◌, min, List, length, take, drop, set, Some, sym, ap, ◌∙◌, arith, length-drop, length-take}
 use Rattle.std.specs.List.{slice_get}
 use Rattle.std.proofs.lemmas.List.{drop-set-add, get_or-take, get_or-drop}
 use Rattle.std.proofs.lemmas.Option.{slice_get-get_or}
-use Rattle.std.proofs.lemmas.Bool.{cond_below}
-use Rattle.store.specs.declared.store.StoreFault.{StoreFault}
-use Rattle.store.specs.declared.store.StoreFault.TheVariants.{Outside}
-use Rattle.store.specs.Answers.{put_answer, when}
 use Rattle.store.specs.Part.{part}
 use Rattle.store.proofs.Fronts.{take-set_any}
 
@@ -24,11 +20,3 @@ nth_part from most xs p l =
 -- a halfword put in the list is put in the part
 pub part-set : (from most : ℕ) (xs : List ℕ) (p h : ℕ) → part from most (set xs (from + p) h) ≡ set (part from most xs) p h
 part-set from most xs p h = ap (take most) (drop-set-add from xs p h) ∙ take-set_any most (drop from xs) p h
-
--- what a put in the list, at a place of the part, is for the part
-pub put-part : (from most : ℕ) (xs : List ℕ) (p h : ℕ) (r : Result (Unit {0}) StoreFault) (ys : List ℕ) → p < length (part from most xs) → r ≡ put_answer xs (from + p) → ys ≡ set xs (from + p) h →
-    (r ≡ put_answer (part from most xs) p) × (part from most ys ≡ set (part from most xs) p h) × (ys ≡ when r (set xs (from + p) h) xs)
-put-part from most xs p h r ys l e f =
-    let deep : from + p < length xs = omega (arith, length_part from most xs) in
-    let taken : r ≡ Ok tt = e ∙ sym (cond_below (from + p) (length xs) (Ok tt) (Err (Outside (from + p))) deep) in
-    (taken ∙ cond_below p (length (part from most xs)) (Ok tt) (Err (Outside p)) l, ap (part from most) f ∙ part-set from most xs p h, f ∙ ap (λ t. when t (set xs (from + p) h) xs) (sym taken))

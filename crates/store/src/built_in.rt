@@ -1,8 +1,6 @@
-ghost use Rattle.std.specs.Prelude.{◌≡◌, replicate, slice_set};
-ghost use Rattle.std.specs.List.{slice_get};
-ghost use Rattle.store.specs.Answers.{put_answer};
+ghost use Rattle.std.specs.Prelude.{◌≡◌, replicate};
 
-use crate::store::{Store, StoreFault};
+use crate::store::{Store, StoreFault, inside};
 
 /// A store of 256 halfwords.
 #[derive(Drop)]
@@ -25,39 +23,17 @@ impl Store for BuiltIn {
     ghost halfwords = { λ s. s.halfwords };
 
     fn size(&self) -> usize {
-        let all: &[u16] = &self.halfwords;
-        all.len()
+        self.halfwords.len()
     }
 
     fn get(&self, place: usize) -> Option<u16> {
-        get_in(&self.halfwords, place)
+        self.halfwords.get(place).copied()
     }
 
     fn put(&mut self, place: usize, half: u16) -> Result<(), StoreFault> {
-        put_in(&mut self.halfwords, place, half)
-    }
-}
-
-// The halfword at a place of a list.
-fn get_in(list: &[u16], place: usize) -> Option<u16>
-    ensures { result ≡ slice_get list.now place }
-{
-    if place < list.len() {
-        Some(list[place])
-    } else {
-        None
-    }
-}
-
-// Puts at a place of a list.
-fn put_in(list: &mut [u16], place: usize, half: u16) -> Result<(), StoreFault>
-    ensures answer { result ≡ put_answer list.old place }
-    ensures after { list.new ≡ slice_set list.old place half }
-{
-    if place < list.len() {
-        list[place] = half;
+        inside(place, self.size())?;
+        // Stays an index: std doesn't say what a slice holds after a write through its `get_mut`.
+        self.halfwords[place] = half;
         Ok(())
-    } else {
-        Err(StoreFault::Outside(place))
     }
 }

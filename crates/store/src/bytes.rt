@@ -1,9 +1,8 @@
 ghost use Rattle.std.specs.Prelude.{◌≡◌, ℕ, ◌+◌, ◌*◌, ◌<◌, ◌≤◌, length, slice_index, slice_set};
-ghost use Rattle.std.specs.List.{slice_get};
 ghost use Rattle.store.specs.Answers.{put_answer, when};
 ghost use Rattle.store.specs.Halves.{held, with_half};
 
-use crate::store::{Store, StoreFault};
+use crate::store::{Store, StoreFault, inside};
 
 /// The bytes of a memory from a byte on, low byte of each halfword first.
 #[derive(Drop)]
@@ -26,11 +25,15 @@ impl Store for Bytes<'_> {
     ghost halfwords = { λ s. held s.start s.memory.now };
 
     fn size(&self) -> usize {
-        count_from(self.memory, self.start)
+        (self.memory.len().saturating_sub(self.start) / 2).min(32768)
     }
 
     fn get(&self, place: usize) -> Option<u16> {
-        read_at(self.memory, self.start, place)
+        if place < self.size() {
+            Some(read_two(&self.memory[self.start..], 2 * place))
+        } else {
+            None
+        }
     }
 
     fn put(&mut self, place: usize, half: u16) -> Result<(), StoreFault>
@@ -40,27 +43,11 @@ impl Store for Bytes<'_> {
         ensures start { self.new.start ≡ self.old.start }
         ensures same { self.new.memory.ghost_name ≡ self.old.memory.ghost_name }
     {
+        inside(place, self.size())?;
         let start = self.start;
-        write_at(self.memory, start, place, half)
+        write_at(self.memory, start, place, half);
+        Ok(())
     }
-}
-
-// How many halfwords the memory has from a byte on.
-fn count_from(memory: &[u8], start: usize) -> usize
-    ensures all { result ≡ length (held start memory.now) }
-    ensures bounded { result ≤ 32768 }
-{
-    (memory.len().saturating_sub(start) / 2).min(32768)
-}
-
-// The halfword at a place counted from a byte on.
-fn read_at(memory: &[u8], start: usize, place: usize) -> Option<u16>
-    ensures { result ≡ slice_get (held start memory.now) place }
-{
-    if place >= count_from(memory, start) {
-        return None;
-    }
-    Some(read_two(&memory[start..], 2 * place))
 }
 
 // The halfword whose low byte stands at `at`, and its high byte after it.
@@ -68,20 +55,15 @@ fn read_two(rest: &[u8], at: usize) -> u16
     requires { at + 1 < length rest.now }
     ensures { result ≡ slice_index rest.now at + 256 * slice_index rest.now (at + 1) }
 {
-    rest[at] as u16 + 256 * rest[at + 1] as u16
+    u16::from_le_bytes([rest[at], rest[at + 1]])
 }
 
 // Puts at a place counted from a byte on.
-fn write_at(memory: &mut [u8], start: usize, place: usize, half: u16) -> Result<(), StoreFault>
-    ensures answer { result ≡ put_answer (held start memory.old) place }
-    ensures after { held start memory.new ≡ slice_set (held start memory.old) place half }
-    ensures memory { memory.new ≡ when result (with_half memory.old (start + 2 * place) half) memory.old }
+fn write_at(memory: &mut [u8], start: usize, place: usize, half: u16)
+    requires { place < length (held start memory.old) }
+    ensures { memory.new ≡ with_half memory.old (start + 2 * place) half }
 {
-    if place >= count_from(memory, start) {
-        return Err(StoreFault::Outside(place));
-    }
     write_two(&mut memory[start..], 2 * place, half);
-    Ok(())
 }
 
 // Writes the low byte of a halfword at `at`, and the high byte after it.
@@ -89,8 +71,9 @@ fn write_two(rest: &mut [u8], at: usize, half: u16)
     requires { at + 1 < length rest.old }
     ensures { rest.new ≡ with_half rest.old at half }
 {
-    rest[at] = (half % 256) as u8;
-    rest[at + 1] = (half / 256) as u8;
+    let [low, high] = half.to_le_bytes();
+    rest[at] = low;
+    rest[at + 1] = high;
 }
 
 /// Puts one halfword into a memory: at a place of the store over its bytes from `start` on.

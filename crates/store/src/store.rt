@@ -1,4 +1,4 @@
-ghost use Rattle.std.specs.Prelude.{◌≡◌, ℕ, ◌-◌, ◌≤◌, List, [], length, Ok, slice_set};
+ghost use Rattle.std.specs.Prelude.{◌≡◌, ℕ, ◌-◌, ◌<◌, ◌≤◌, List, [], length, Ok, Err, OnOk, if◌then◌else◌, nat_lt, slice_set};
 ghost use Rattle.std.specs.List.{slice_get};
 ghost use Rattle.store.specs.Answers.{fault_number, put_answer, span_answer, when};
 ghost use Rattle.store.specs.Puts.{applied, puts};
@@ -11,7 +11,7 @@ pub enum StoreFault {
 }
 
 impl StoreFault {
-    /// The number of the refusal.
+    /// The number of the refusal. Stays a number: callers are told it, as docs/REFUSALS.md lists it.
     pub fn number(&self) -> u8
         ensures { result ≡ fault_number self.now }
     {
@@ -48,6 +48,18 @@ pub fn write<S: Store>(store: &mut S, place: usize, list: &[u16]) -> Result<(), 
 {
     fits(store.size(), place, list.len())?;
     put_all(store, place, list)
+}
+
+// Whether a place lies in a store of this size.
+pub(crate) fn inside(place: usize, size: usize) -> Result<(), StoreFault>
+    ensures is { result ≡ (if nat_lt place size then Ok tt else Err (StoreFault.Outside place)) }
+    ensures lies { OnOk result (place < size) }
+{
+    if place < size {
+        Ok(())
+    } else {
+        Err(StoreFault::Outside(place))
+    }
 }
 
 // Whether `count` halfwords from `place` up lie in a store of this size.

@@ -1,9 +1,8 @@
 ghost use Rattle.std.specs.Prelude.{◌≡◌, ℕ, ◌+◌, ◌-◌, ◌≤◌, length, slice_set};
-ghost use Rattle.std.specs.List.{slice_get};
 ghost use Rattle.store.specs.Answers.{put_answer, when};
 ghost use Rattle.store.specs.Part.{part};
 
-use crate::store::{Store, StoreFault};
+use crate::store::{Store, StoreFault, inside};
 
 /// At most `most` halfwords of a store below, from its place `from` on.
 #[derive(Drop)]
@@ -27,12 +26,20 @@ impl<'a, S: Store> Window<'a, S> {
 impl<S: Store> Store for Window<'_, S> {
     ghost halfwords = { λ w. part w.from w.most (S.Store.halfwords w.below.now) };
 
-    fn size(&self) -> usize {
-        size_from(self.below, self.from, self.most)
+    fn size(&self) -> usize
+        ensures all { result ≡ length (part self.now.from self.now.most (S.Store.halfwords self.now.below.now)) }
+        ensures bounded { result ≤ 32768 }
+        ensures reach { result ≤ 32768 - self.now.from }
+    {
+        self.below.size().saturating_sub(self.from).min(self.most)
     }
 
     fn get(&self, place: usize) -> Option<u16> {
-        get_from(self.below, self.from, self.most, place)
+        if place < self.size() {
+            self.below.get(self.from + place)
+        } else {
+            None
+        }
     }
 
     fn put(&mut self, place: usize, half: u16) -> Result<(), StoreFault>
@@ -43,47 +50,8 @@ impl<S: Store> Store for Window<'_, S> {
         ensures most { self.new.most ≡ self.old.most }
         ensures same { self.new.below.ghost_name ≡ self.old.below.ghost_name }
     {
-        let from = self.from;
-        let most = self.most;
-        put_from(self.below, from, most, place, half)
-    }
-}
-
-// How many halfwords the store below has of the window.
-fn size_from<S: Store>(below: &S, from: usize, most: usize) -> usize
-    ensures all { result ≡ length (part from most (S.halfwords below.now)) }
-    ensures bounded { result ≤ 32768 - from }
-{
-    below.size().saturating_sub(from).min(most)
-}
-
-// The halfword at a place of the window.
-fn get_from<S: Store>(below: &S, from: usize, most: usize, place: usize) -> Option<u16>
-    ensures { result ≡ slice_get (part from most (S.halfwords below.now)) place }
-{
-    if place < size_from(below, from, most) {
-        below.get(from + place)
-    } else {
-        None
-    }
-}
-
-// Puts at a place of the window.
-fn put_from<S: Store>(
-    below: &mut S,
-    from: usize,
-    most: usize,
-    place: usize,
-    half: u16,
-) -> Result<(), StoreFault>
-    ensures answer { result ≡ put_answer (part from most (S.halfwords below.old)) place }
-    ensures after { part from most (S.halfwords below.new) ≡ slice_set (part from most (S.halfwords below.old)) place half }
-    ensures below { S.halfwords below.new ≡ when result (slice_set (S.halfwords below.old) (from + place) half) (S.halfwords below.old) }
-{
-    if place < size_from(below, from, most) {
-        below.put(from + place, half)
-    } else {
-        Err(StoreFault::Outside(place))
+        inside(place, self.size())?;
+        self.below.put(self.from + place, half)
     }
 }
 

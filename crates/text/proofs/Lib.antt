@@ -1,7 +1,7 @@
-pub mod Until
+pub mod Marks
 pub mod Sheet
 pub mod Commas
 pub mod Readings
 pub mod Numerals
-pub mod Overwritten
+pub mod Hex
 pub mod Splits

@@ -2,7 +2,7 @@
 use Rattle.std.proofs.Common.{◌≡◌, ℕ, zero, suc, ◌+◌, ◌-◌, ◌*◌, ◌/◌, ◌%◌, ◌^◌, ◌<◌, ◌≤◌, true, false, ◌&&◌, eqb, ltb, leb, List, [], ◌∷◌, ◌++◌, map, length, get_or, drop, ℤ, pos, negsuc, Some, None, Option, sym, refl, ap, ◌∙◌, subst, ⊎_elim, arith}
 use Rattle.std.specs.Int.Digits.{digits_of, AllBelowBase, number_from_digits_after}
 use Rattle.std.proofs.lemmas.Int.Digits.{digits_of_step, all_below_base_digits_of, first_digits_of, number_digits_of, length-digits_of_step, length-digits_of-le}
-use Rattle.std.proofs.lemmas.List.{append-nil, append_assoc, map-append, length-map, length_push}
+use Rattle.std.proofs.lemmas.List.{append-nil, append_assoc, map-append, length-map}
 use Rattle.std.proofs.lemmas.Int.{ints}
 use Rattle.std.proofs.lemmas.Bool.{both_ways, cond-true, cond-false, eq-eqb, ne_eqb, eqb-true, lt-ltb, le-ltb, cases_eq, cases_lt, cases_Bool, and_parts, leb-true, le-leb, and_from, and_left}
 use Rattle.text.specs.Decimal.{digits, numeral}
@@ -18,9 +18,6 @@ digits_positive n l = cond-false (eqb n 0) (48 ∷ []) (map ascii (digits_of 10 
 pub digits_more : (n : ℕ) → 10 ≤ n → digits n ≡ digits (n / 10) ++ ((48 + n % 10) ∷ [])
 digits_more n l =
     digits_positive n (omega arith) ∙ ap (map ascii) (digits_of_step 10 n (omega arith) (omega arith)) ∙ map-append ascii (digits_of 10 (n / 10)) (n % 10 ∷ []) ∙ ap (λ r. r ++ ((48 + n % 10) ∷ [])) (sym (digits_positive (n / 10) (omega arith)))
-
-pub length-digits_more : (n : ℕ) → 10 ≤ n → length (digits n) ≡ length (digits (n / 10)) + 1
-length-digits_more n l = ap length (digits_more n l) ∙ length_push (digits (n / 10)) (48 + n % 10)
 
 -- one digit
 pub digits_one : (n : ℕ) → n < 10 → digits n ≡ (48 + n) ∷ []
@@ -49,12 +46,6 @@ length-digits_le k n p l =
 
 some_digits_of : (n : ℕ) → 0 < n → 0 < length (digits_of 10 n)
 some_digits_of n p = omega (arith, length-digits_of_step 10 n (omega arith) p)
-
-pub some_digit : (n : ℕ) → 0 < length (digits n)
-some_digit n =
-    ⊎_elim (λ e. omega (arith, ap (λ m. length (digits m)) e))
-    (λ e. omega (arith, ap length (digits_positive n (omega arith)), length-map (digits_of 10 n) ascii, some_digits_of n (omega arith)))
-    (cases_eq n 0)
 
 -- from a text to the number
 

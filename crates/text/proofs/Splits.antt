@@ -1,12 +1,12 @@
 -- A sheet's lines and a line's fields write it, and nothing else does.
 use Rattle.std.proofs.Common.{◌≡◌, ℕ, ◌<◌, Bool, true, false, cond, eqb, List, [], ◌∷◌, ◌++◌, length, sym, refl, ap, ◌∙◌, arith}
-use Rattle.std.specs.List.{AllByRecursion}
+use Rattle.std.specs.List.{AllByRecursion, onto_first}
 use Rattle.std.proofs.lemmas.List.{append-nil}
+use Rattle.std.proofs.lemmas.List.Splits.{slice_split-cons_no, length-slice_split}
 use Rattle.std.proofs.lemmas.Bool.{eqb-true, eqb-false, ne_eqb, cond-false}
 use Rattle.text.specs.Bytes.{Without}
 use Rattle.text.specs.Lines.{Line, ended, unended, with_byte, lines, sheet, Tidy, LinesExact}
-use Rattle.text.specs.Fields.{fields, with_front, line_of, FieldsExact}
-use Rattle.text.proofs.Commas.{some_field}
+use Rattle.text.specs.Fields.{fields, line_of, FieldsExact}
 
 -- lines
 
@@ -39,11 +39,11 @@ sheet-lines (x ∷ s) = sheet_step x (lines s) (eqb x 10) refl ∙ ap (λ r. x �
 other : (x : ℕ) (s : List ℕ) → (x ≡ 10 → ⊥) → lines (x ∷ s) ≡ with_byte x (lines s)
 other x s ne = cond-false (eqb x 10) (ended [] ∷ lines s) (with_byte x (lines s)) (ne_eqb x 10 ne)
 
-one_ended : (t s : List ℕ) → Without 10 t → lines (t ++ (10 ∷ s)) ≡ ended t ∷ lines s
+pub one_ended : (t s : List ℕ) → Without 10 t → lines (t ++ (10 ∷ s)) ≡ ended t ∷ lines s
 one_ended [] s w = refl
 one_ended (x ∷ t) s w = other x (t ++ (10 ∷ s)) w.0 ∙ ap (with_byte x) (one_ended t s w.1)
 
-one_unended : (t : List ℕ) → Without 10 t → 0 < length t → lines t ≡ unended t ∷ []
+pub one_unended : (t : List ℕ) → Without 10 t → 0 < length t → lines t ≡ unended t ∷ []
 one_unended [] w l = absurd (omega arith)
 one_unended (x ∷ []) w l = other x [] w.0
 one_unended (x ∷ y ∷ t) w l = other x (y ∷ t) w.0 ∙ ap (with_byte x) (one_unended (y ∷ t) w.1 (omega arith))
@@ -59,11 +59,14 @@ lines_exact s = (tidy_lines s, sheet-lines s, λ ls h e. sym (lines-sheet ls h) 
 
 -- fields
 
-apart_front : (x : ℕ) (fs : List (List ℕ)) → (x ≡ 44 → ⊥) → AllByRecursion (Without 44) fs → AllByRecursion (Without 44) (with_front x fs)
+pub some_field : (xs : List ℕ) → 0 < length (fields xs)
+some_field xs = omega (arith, length-slice_split (λ b. eqb b 44) xs)
+
+apart_front : (x : ℕ) (fs : List (List ℕ)) → (x ≡ 44 → ⊥) → AllByRecursion (Without 44) fs → AllByRecursion (Without 44) (onto_first x fs)
 apart_front x [] ne h = ((ne, tt), tt)
 apart_front x (f ∷ fs) ne h = ((ne, h.0), h.1)
 
-apart_step : (x : ℕ) (fs : List (List ℕ)) (b : Bool) → eqb x 44 ≡ b → AllByRecursion (Without 44) fs → AllByRecursion (Without 44) (cond b ([] ∷ fs) (with_front x fs))
+apart_step : (x : ℕ) (fs : List (List ℕ)) (b : Bool) → eqb x 44 ≡ b → AllByRecursion (Without 44) fs → AllByRecursion (Without 44) (cond b ([] ∷ fs) (onto_first x fs))
 apart_step x fs true e h = (tt, h)
 apart_step x fs false e h = apart_front x fs (eqb-false x 44 e) h
 
@@ -71,7 +74,7 @@ apart_fields : (s : List ℕ) → AllByRecursion (Without 44) (fields s)
 apart_fields [] = (tt, tt)
 apart_fields (x ∷ s) = apart_step x (fields s) (eqb x 44) refl (apart_fields s)
 
-line_front : (x : ℕ) (fs : List (List ℕ)) → line_of (with_front x fs) ≡ x ∷ line_of fs
+line_front : (x : ℕ) (fs : List (List ℕ)) → line_of (onto_first x fs) ≡ x ∷ line_of fs
 line_front x [] = refl
 line_front x (f ∷ fs) = refl
 
@@ -79,7 +82,7 @@ line_comma : (fs : List (List ℕ)) → 0 < length fs → line_of ([] ∷ fs) �
 line_comma [] l = absurd (omega arith)
 line_comma (f ∷ fs) l = refl
 
-line_step : (x : ℕ) (fs : List (List ℕ)) (b : Bool) → eqb x 44 ≡ b → 0 < length fs → line_of (cond b ([] ∷ fs) (with_front x fs)) ≡ x ∷ line_of fs
+line_step : (x : ℕ) (fs : List (List ℕ)) (b : Bool) → eqb x 44 ≡ b → 0 < length fs → line_of (cond b ([] ∷ fs) (onto_first x fs)) ≡ x ∷ line_of fs
 line_step x fs true e l = line_comma fs l ∙ ap (λ y. y ∷ line_of fs) (sym (eqb-true x 44 e))
 line_step x fs false e l = line_front x fs
 
@@ -87,16 +90,16 @@ line_fields : (s : List ℕ) → line_of (fields s) ≡ s
 line_fields [] = refl
 line_fields (x ∷ s) = line_step x (fields s) (eqb x 44) refl (some_field s) ∙ ap (λ r. x ∷ r) (line_fields s)
 
-no_comma : (x : ℕ) (s : List ℕ) → (x ≡ 44 → ⊥) → fields (x ∷ s) ≡ with_front x (fields s)
-no_comma x s ne = cond-false (eqb x 44) ([] ∷ fields s) (with_front x (fields s)) (ne_eqb x 44 ne)
+no_comma : (x : ℕ) (s : List ℕ) → (x ≡ 44 → ⊥) → fields (x ∷ s) ≡ onto_first x (fields s)
+no_comma x s ne = slice_split-cons_no (λ b. eqb b 44) x s (ne_eqb x 44 ne)
 
-one_last : (f : List ℕ) → Without 44 f → fields (f ++ []) ≡ f ∷ []
+pub one_last : (f : List ℕ) → Without 44 f → fields (f ++ []) ≡ f ∷ []
 one_last [] w = refl
-one_last (x ∷ f) w = no_comma x (f ++ []) w.0 ∙ ap (with_front x) (one_last f w.1)
+one_last (x ∷ f) w = no_comma x (f ++ []) w.0 ∙ ap (onto_first x) (one_last f w.1)
 
 one_more : (f s : List ℕ) → Without 44 f → fields (f ++ (44 ∷ s)) ≡ f ∷ fields s
 one_more [] s w = refl
-one_more (x ∷ f) s w = no_comma x (f ++ (44 ∷ s)) w.0 ∙ ap (with_front x) (one_more f s w.1)
+one_more (x ∷ f) s w = no_comma x (f ++ (44 ∷ s)) w.0 ∙ ap (onto_first x) (one_more f s w.1)
 
 fields_line : (fs : List (List ℕ)) → 0 < length fs → AllByRecursion (Without 44) fs → fields (line_of fs) ≡ fs
 fields_line [] l h = absurd (omega arith)

@@ -1,19 +1,13 @@
 -- A line's fields are the parts between its commas, byte 44.
-use Rattle.std.specs.Prelude.{◌≡◌, ℕ, zero, suc, ◌+◌, ◌<◌, Bool, cond, ◌&&◌, ◌||◌, List, [], ◌∷◌, ◌++◌, length, Some, None, Option, ◌==◌, nat_le}
+use Rattle.std.specs.Prelude.{◌≡◌, ℕ, zero, suc, ◌+◌, ◌<◌, Bool, cond, ◌&&◌, ◌||◌, List, [], ◌∷◌, ◌++◌, length, drop, position, Some, None, Option, ◌==◌, nat_le}
 use Rattle.std.specs.Option.{option_map}
-use Rattle.std.specs.List.{AllByRecursion, slice_get}
+use Rattle.std.specs.List.{AllByRecursion, slice_get, slice_split}
 use Rattle.std.specs.Str.{bytes_eq}
 use Rattle.text.specs.Bytes.{Without}
 
--- the parts, with one more byte at the front of the first
-abbrev pub with_front : ℕ → List (List ℕ) → List (List ℕ)
-with_front x [] = (x ∷ []) ∷ []
-with_front x (f ∷ fs) = (x ∷ f) ∷ fs
-
 -- the fields of a line, one more than it has commas
 abbrev pub fields : List ℕ → List (List ℕ)
-fields [] = [] ∷ []
-fields (x ∷ xs) = cond (x == 44) ([] ∷ fields xs) (with_front x (fields xs))
+fields line = slice_split (λ b. b == 44) line
 
 -- the byte at which a field begins: past the fields before it, each with its comma
 abbrev pub begins : List (List ℕ) → ℕ → ℕ
@@ -48,8 +42,17 @@ text_of (empty_part p) = []
 
 -- the number of the first text that is this one
 abbrev pub place_of : List (List ℕ) → List ℕ → Option ℕ
-place_of [] t = None
-place_of (f ∷ fs) t = cond (bytes_eq f t) (Some 0) (option_map suc (place_of fs t))
+place_of fs t = position (λ f. bytes_eq f t) fs
+
+-- the fields with the bytes at which they begin, the first of them at p
+abbrev pub parts : List (List ℕ) → ℕ → List Part
+parts [] p = []
+parts (f ∷ fs) p = part f p ∷ parts fs (p + (length f + 1))
+
+-- the fields of a line from a byte on, none where there is no such byte
+abbrev pub parts_from : List ℕ → Option ℕ → List Part
+parts_from line None = []
+parts_from line (Some p) = parts (fields (drop p line)) p
 
 -- the line that fields write: a comma between one and the next
 abbrev pub behind_commas : List (List ℕ) → List ℕ

@@ -1,5 +1,6 @@
 pub mod Bytes
 pub mod Lines
+pub mod Given
 pub mod Fields
 pub mod Shown
 pub mod Decimal

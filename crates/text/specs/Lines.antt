@@ -1,6 +1,6 @@
 -- A sheet is bytes; each line of it is ended by a newline, byte 10.
-use Rattle.std.specs.Prelude.{◌≡◌, ℕ, ◌<◌, cond, List, [], ◌∷◌, ◌++◌, length, Option, ◌==◌}
-use Rattle.text.specs.Bytes.{Without, to_mark, mark_from}
+use Rattle.std.specs.Prelude.{◌≡◌, ℕ, ◌<◌, cond, List, [], ◌∷◌, ◌++◌, length, ◌==◌}
+use Rattle.text.specs.Bytes.{Without}
 
 -- a line's text, without its newline; only what stands after the last newline is unended
 pub data Line : Type 0 where
@@ -17,14 +17,6 @@ with_byte x (unended t ∷ ls) = unended (x ∷ t) ∷ ls
 abbrev pub lines : List ℕ → List Line
 lines [] = []
 lines (x ∷ xs) = cond (x == 10) (ended [] ∷ lines xs) (with_byte x (lines xs))
-
--- the bytes before the first newline, if there is one
-abbrev pub to_newline : List ℕ → Option (List ℕ)
-to_newline xs = to_mark 10 xs
-
--- the place of the first newline at or after `place`, if there is one
-abbrev pub newline_from : List ℕ → ℕ → Option ℕ
-newline_from xs place = mark_from 10 xs place
 
 -- the sheet that lines write: a newline behind each ended one
 abbrev pub sheet : List Line → List ℕ

@@ -1,7 +1,7 @@
+//! Lines, fields and numbers out of bytes, and texts of fixed size.
 #![tactic(auto)]
 
-// Reading lines, fields and numbers out of bytes, and writing text into bytes.
-pub mod bytes;
+mod bytes;
 pub mod fields;
 pub mod lines;
 pub mod numbers;

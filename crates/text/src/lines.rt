@@ -1,31 +1,53 @@
 // The lines of a sheet.
-ghost use Rattle.std.specs.Prelude.{◌≡◌, ◌+◌, ◌-◌, ◌<◌, ◌≤◌, length, take, drop, IfSome};
-ghost use Rattle.std.specs.Option.{option_map};
-ghost use Rattle.text.specs.Lines.{to_newline, newline_from, LinesExact};
+ghost use Rattle.std.specs.Prelude.{◌≡◌};
+ghost use Rattle.std.specs.Iterator.{YieldsFirstBy, item_count};
+ghost use Rattle.text.specs.Lines.{lines, LinesExact};
+ghost use Rattle.text.specs.Given.{given};
 
-use crate::bytes::first;
+use crate::bytes::place;
 
-// The place of the first newline at or after `from`.
-pub fn newline(bytes: &[u8], from: usize) -> Option<usize>
-    ensures is { result ≡ newline_from bytes.now from }
-    ensures within { IfSome result (λ p. (from ≤ p) × (p < length bytes.now)) }
-    ensures before { option_map (λ p. take (p - from) (drop from bytes.now)) result ≡ to_newline (drop from bytes.now) }
-{
-    first(bytes, from, b'\n')
+// What stands behind the last newline of a sheet.
+#[derive(Clone, Copy, PartialEq, Eq, Debug, Drop)]
+pub struct Unended<'a>(pub &'a [u8]);
+
+// The lines of a sheet, one after the other, each without its newline; an unended one comes last.
+#[derive(Clone, Copy, Drop)]
+pub struct Lines<'a> {
+    // what is left of the sheet
+    rest: &'a [u8],
 }
 
-// The bytes from `from` up to the next newline, if one follows.
-pub fn line_at<'a>(bytes: &'a [u8], from: usize) -> Option<&'a [u8]>
-    ensures is { option_map (λ x. x.now) result ≡ to_newline (drop from bytes.now) }
-    ensures within { IfSome result (λ t. from + length t.now < length bytes.now) }
-{
-    let end = newline(bytes, from)?;
-    Some(&bytes[from..end])
+impl<'a> Lines<'a> {
+    // The lines of this sheet.
+    pub fn of(sheet: &'a [u8]) -> Lines<'a>
+        ensures { result.rest.now ≡ sheet.now }
+    {
+        Lines { rest: sheet }
+    }
+}
+
+impl<'a> Iterator for Lines<'a> {
+    type Item = Result<&'a [u8], Unended<'a>>;
+
+    ghost next_gives = { YieldsFirstBy given (λ s. lines s.rest.now) };
+
+    ghost remaining = { item_count (λ s. lines s.rest.now) };
+
+    fn next(&mut self) -> Option<Result<&'a [u8], Unended<'a>>> {
+        let sheet = self.rest;
+        if sheet.is_empty() {
+            return None;
+        }
+        let Some(end) = place(sheet, b'\n') else {
+            self.rest = &[];
+            return Some(Err(Unended(sheet)));
+        };
+        self.rest = &sheet[end + 1..];
+        Some(Ok(&sheet[..end]))
+    }
 }
 
 // The lines of a sheet are the only ones that write it.
-pub fn lines_stand() -> u8
+pub fn lines_stand()
     ensures { LinesExact }
-{
-    0
-}
+{}

@@ -1,6 +1,5 @@
 // Numbers out of bytes: an optional minus and decimal digits, with no leading zero and no -0.
-ghost use Rattle.std.specs.Prelude.{◌≡◌, ◌+◌, ◌-◌, ◌*◌, ◌^◌, drop, if◌then◌else◌, Some, None, nat_eq, slice_index};
-ghost use Rattle.std.specs.Option.{option_map};
+ghost use Rattle.std.specs.Prelude.{◌≡◌, ◌+◌, ◌-◌, ◌*◌, ◌^◌, if◌then◌else◌, Some, None};
 ghost use Rattle.text.specs.Numbers.{is_digit, value_after, natural_of, under, plain, negated, number_of, value_of, NumeralsExact};
 ghost use Rattle.text.specs.Shown.{shown};
 
@@ -10,10 +9,10 @@ use crate::fields::Field;
 fn with_digit(n: u64, b: u8) -> Option<u64>
     ensures { result ≡ (if is_digit b then under (2 ^ 64) (Some (n * 10 + (b - 48))) else None) }
 {
-    if b < b'0' || b > b'9' {
+    if !b.is_ascii_digit() {
         return None;
     }
-    n.checked_mul(10)?.checked_add((b - b'0') as u64)
+    n.checked_mul(10)?.checked_add(u64::from(b - b'0'))
 }
 
 // The number that the bytes write, if all are digits and it fits.
@@ -31,38 +30,25 @@ fn digits_value(bytes: &[u8]) -> Option<u64>
 fn natural(bytes: &[u8]) -> Option<u64>
     ensures { result ≡ under (2 ^ 64) (natural_of bytes.now) }
 {
-    if bytes.len() == 0 || (bytes[0] == b'0' && bytes.len() > 1) {
-        return None;
+    match bytes {
+        [] | [b'0', _, ..] => None,
+        _ => digits_value(bytes),
     }
-    digits_value(bytes)
 }
 
 fn not_negative(bytes: &[u8]) -> Option<i64>
     ensures { result ≡ plain (natural_of bytes.now) }
 {
-    let n = natural(bytes)?;
-    if n < 1 << 63 { Some(n as i64) } else { None }
+    i64::try_from(natural(bytes)?).ok()
 }
 
 // What stands behind a minus.
 fn negative(bytes: &[u8]) -> Option<i64>
     ensures { result ≡ negated (natural_of bytes.now) }
 {
-    let n = natural(bytes)?;
-    if n >= 1 && n <= 1 << 63 {
-        Some(-1 - (n - 1) as i64)
-    } else {
-        None
-    }
-}
-
-// The bytes behind a minus, if they begin with one.
-fn behind_minus<'a>(bytes: &'a [u8]) -> Option<&'a [u8]>
-    ensures { option_map (λ x. x.now) result ≡ (if nat_eq (slice_index bytes.now 0) 45 then Some (drop 1 bytes.now) else None) }
-{
-    match bytes {
-        [b'-', rest @ ..] => Some(rest),
-        _ => None,
+    match natural(bytes)? {
+        0 => None,
+        n => 0i64.checked_sub_unsigned(n),
     }
 }
 
@@ -70,26 +56,26 @@ fn behind_minus<'a>(bytes: &'a [u8]) -> Option<&'a [u8]>
 pub fn number(bytes: &[u8]) -> Option<i64>
     ensures { result ≡ number_of bytes.now }
 {
-    match behind_minus(bytes) {
-        Some(rest) => negative(rest),
-        None => not_negative(bytes),
+    match bytes {
+        [b'-', rest @ ..] => negative(rest),
+        _ => not_negative(bytes),
     }
 }
 
 // What `number` answers is the integer whose numeral the bytes are.
-pub fn numerals_stand() -> u8
+pub fn numerals_stand()
     ensures { NumeralsExact }
-{
-    0
-}
+{}
 
-// A field's value: 0 if it is empty, none if it is a word or no number of signed 64 bits.
-pub fn value(f: Field<'_>) -> Option<i64>
-    ensures { result ≡ value_of (shown f.entry) }
-{
-    match f {
-        Field::Word(_, _) => None,
-        Field::Number(bytes, _) => number(bytes),
-        Field::Empty(_) => Some(0),
+impl Field<'_> {
+    // The field's value: 0 if it is empty, none if it is a word or no number of signed 64 bits.
+    pub fn value(self) -> Option<i64>
+        ensures { result ≡ value_of (shown self.entry) }
+    {
+        match self {
+            Field::Word(_, _) => None,
+            Field::Number(bytes, _) => number(bytes),
+            Field::Empty(_) => Some(0),
+        }
     }
 }

@@ -1,9 +1,114 @@
-// Writing text into a buffer of the caller's, from a place on. Each function answers the place
-// past what it wrote, and asks that the text fits.
-ghost use Rattle.std.specs.Prelude.{◌≡◌, ◌+◌, ◌<◌, ◌≤◌, [], ◌∷◌, length};
+// Text written piece by piece into memory of a fixed size.
+ghost use Rattle.std.specs.Prelude.{◌≡◌, ℕ, ◌+◌, ◌<◌, ◌≤◌, List, [], ◌∷◌, ◌++◌, ◌-◌, min, Some, Ok, length, take};
+ghost use Rattle.std.specs.Io.{WritesAtMost};
+ghost use Rattle.std.specs.Io.KnownBytes.{WriteAppends};
 ghost use Rattle.text.specs.Decimal.{digits};
 ghost use Rattle.text.specs.Written.{overwritten, hex_digit, hex};
 
+use std::io;
+use std::io::Write;
+use std::marker::Model;
+
+/// A text of at most `N` bytes. Each write puts its bytes at the end.
+// Stays: std's `write!` says what it writes where it succeeds, and not that it succeeds where
+// there is room. The writes here cannot fail, so numbers are written digit by digit.
+#[derive(Drop)]
+pub struct Text<const N: usize> {
+    bytes: [u8; N],
+    len: usize,
+}
+
+// Clauses see the bytes that are written.
+impl<const N: usize> Model for Text<N> {
+    ghost Value = { List ℕ };
+
+    ghost view = { λ t. take t.len t.bytes };
+
+    ghost invariant = { λ t. t.len ≤ N };
+}
+
+impl<const N: usize> Text<N> {
+    /// Nothing is written.
+    pub fn new() -> Self
+        ensures { result ≡ [] }
+    {
+        Text {
+            bytes: [0; N],
+            len: 0,
+        }
+    }
+
+    /// The bytes that are written.
+    pub fn as_bytes(&self) -> &[u8]
+        ensures bytes { result.now ≡ self.now }
+        ensures within { length self.now ≤ N }
+    {
+        &self.bytes[..self.len]
+    }
+
+    /// Writes the bytes.
+    pub fn write_bytes(&mut self, bytes: &[u8])
+        requires { length self.old + length bytes.now ≤ N }
+        ensures text { self.new ≡ self.old ++ bytes.now }
+        ensures len { length self.new ≡ length self.old + length bytes.now }
+    {
+        copy_at(&mut self.bytes, self.len, bytes);
+        self.len += bytes.len();
+    }
+
+    /// Writes the number in decimal, with no leading zero.
+    pub fn write_decimal(&mut self, n: u32)
+        requires { length self.old + length (digits n) ≤ N }
+        ensures text { self.new ≡ self.old ++ digits n }
+        ensures len { length self.new ≡ length self.old + length (digits n) }
+    {
+        self.write_bytes(decimal(n).as_bytes());
+    }
+
+    /// Writes the word as `width` lower-case hexadecimal digits, the most significant first; those
+    /// above the width are left out.
+    pub fn write_hex(&mut self, word: u32, width: usize)
+        requires { length self.old + width ≤ N }
+        ensures text { self.new ≡ self.old ++ hex width word }
+        ensures len { length self.new ≡ length self.old + width }
+    {
+        let end = self.len + width;
+        let all = &mut self.bytes[..];
+        fill_hex(&mut all[self.len..end], word);
+        self.len = end;
+    }
+
+    /// Copies the text to the start of a buffer, and tells how long it is.
+    pub fn copy_to(&self, out: &mut [u8]) -> usize
+        requires { length self.now ≤ length out.old }
+        ensures end { result ≡ length self.now }
+        ensures after { out.new ≡ overwritten out.old 0 self.now }
+    {
+        copy_at(out, 0, self.as_bytes());
+        self.len
+    }
+}
+
+impl<const N: usize> Write for Text<N> {
+    ghost contents = { λ t. Some t };
+
+    // Writes as many of the bytes as fit.
+    fn write(&mut self, buf: &[u8]) -> io::Result<usize>
+        ensures bound { WritesAtMost result buf.now }
+        ensures bytes { WriteAppends (Some self.old) (Some self.new) result buf.now }
+        ensures count { result ≡ Ok (min (length buf.now) (N - length self.old)) }
+    {
+        let n = buf.len().min(N - self.len);
+        self.write_bytes(&buf[..n]);
+        Ok(n)
+    }
+
+    fn flush(&mut self) -> io::Result<()> {
+        Ok(())
+    }
+}
+
+// Copies the bytes into a buffer, from a place on.
 fn copy_at(out: &mut [u8], at: usize, bytes: &[u8])
     requires { at + length bytes.now ≤ length out.old }
     ensures { out.new ≡ overwritten out.old at bytes.now }
@@ -12,78 +117,33 @@ fn copy_at(out: &mut [u8], at: usize, bytes: &[u8])
     out[at..end].copy_from_slice(bytes);
 }
 
-// Writes the bytes.
-pub fn write_bytes(out: &mut [u8], at: usize, bytes: &[u8]) -> usize
-    requires { at + length bytes.now ≤ length out.old }
-    ensures end { result ≡ at + length bytes.now }
-    ensures after { out.new ≡ overwritten out.old at bytes.now }
+// The number in decimal: the digits of its tenth, and the last.
+fn decimal(n: u32) -> Text<10>
+    ensures { result ≡ digits n }
 {
-    copy_at(out, at, bytes);
-    at + bytes.len()
+    let mut text = if n < 10 { Text::new() } else { decimal(n / 10) };
+    text.write_bytes(&[b'0' + (n % 10) as u8]);
+    text
 }
 
-// Writes one byte.
-fn write_byte(out: &mut [u8], at: usize, byte: u8) -> usize
-    requires { at < length out.old }
-    ensures end { result ≡ at + 1 }
-    ensures after { out.new ≡ overwritten out.old at (byte ∷ []) }
+// Fills a buffer with the last hexadecimal digits of a word.
+#[tactic(auto, using(crate::proofs::Hex::hex_last))]
+fn fill_hex(out: &mut [u8], word: u32)
+    ensures { out.new ≡ hex (length out.old) word }
 {
-    out[at] = byte;
-    at + 1
-}
-
-// Writes a number's digits, the last after those of its tenth.
-fn write_digits(out: &mut [u8], at: usize, n: u32) -> usize
-    requires { at + length (digits n) ≤ length out.old }
-    ensures end { result ≡ at + length (digits n) }
-    ensures after { out.new ≡ overwritten out.old at (digits n) }
-{
-    if n < 10 {
-        return write_byte(out, at, b'0' + n as u8);
+    if let Some((last, front)) = out.split_last_mut() {
+        *last = hex_byte(word % 16);
+        fill_hex(front, word / 16);
     }
-    let last = write_digits(out, at, n / 10);
-    write_byte(out, last, b'0' + (n % 10) as u8)
 }
 
-// Writes the number in decimal, with no leading zero.
-pub fn write_decimal(out: &mut [u8], at: usize, n: u32) -> usize
-    requires { at + length (digits n) ≤ length out.old }
-    ensures end { result ≡ at + length (digits n) }
-    ensures after { out.new ≡ overwritten out.old at (digits n) }
-{
-    write_digits(out, at, n)
-}
-
+// A hexadecimal digit as a byte.
 fn hex_byte(digit: u32) -> u8
     requires { digit < 16 }
     ensures { result ≡ hex_digit digit }
 {
-    if digit < 10 {
-        b'0' + digit as u8
-    } else {
-        b'a' + (digit - 10) as u8
+    match digit as u8 {
+        d @ 0..=9 => b'0' + d,
+        d => b'a' + (d - 10),
     }
-}
-
-// Writes the hexadecimal digits from the last to the first.
-fn write_hex_digits(out: &mut [u8], at: usize, word: u32, width: usize)
-    requires { at + width ≤ length out.old }
-    ensures { out.new ≡ overwritten out.old at (hex width word) }
-{
-    let mut rest = word;
-    for k in (0..width).rev() {
-        out[at + k] = hex_byte(rest % 16);
-        rest /= 16;
-    }
-}
-
-// Writes the word as `width` lower-case hexadecimal digits, the most significant first; those
-// above the width are left out.
-pub fn write_hex(out: &mut [u8], at: usize, word: u32, width: usize) -> usize
-    requires { at + width ≤ length out.old }
-    ensures end { result ≡ at + width }
-    ensures after { out.new ≡ overwritten out.old at (hex width word) }
-{
-    write_hex_digits(out, at, word, width);
-    at + width
 }

@@ -1,4 +1,5 @@
 // The operands of each format: registers and constants in their range, and plain codes.
+// Stays: vs1 and the constant share a place in the word, and are a register and a number with a sign.
 use operands::imms::Imm5;
 use operands::masking::VecOpMasking;
 use operands::regs::RegNum;

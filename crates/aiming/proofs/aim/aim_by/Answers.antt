@@ -1,4 +1,4 @@
-use Rattle.std.proofs.Common.{◌≡◌, ℕ, true, ℤ, Some, None, Option, refl, ap, ◌∙◌, subst, arith, w64, to_z, of_z, MatchOption}
+use Rattle.std.proofs.Common.{◌≡◌, ℕ, true, ℤ, Some, None, Option, refl, ap, ◌∙◌, subst, w64, to_z, of_z, MatchOption}
 use Rattle.std.proofs.lemmas.Int.{to_z-of_z}
 use Rattle.bits.specs.declared.part.Values.{Values}
 use Rattle.bits.specs.Layout.{word, Fit}
@@ -9,7 +9,7 @@ use Rattle.aiming.proofs.aim.aim_by.Goals as goal
 
 -- none in place of an answer that is due, and an answer that is another
 answered : (r : Option ℕ) (P : Type 0) (x : ℕ) → (P → r ≡ Some x) → ((y : ℕ) → r ≡ Some y → P) → MatchOption r (P → ⊥) (λ y. P × (y ≡ x))
-answered None P x t f = λ p. let e = t p in let z : ◌≡◌ {A = ℕ} 0 1 = cc in omega arith
+answered None P x t f = λ p. let e = t p in cc
 answered (Some y) P x t f = let p = f y refl in let e = t p in (p, cc)
 
 pub returns : goal.returns

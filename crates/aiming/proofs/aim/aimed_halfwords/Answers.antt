@@ -13,15 +13,9 @@ at i z = aimed (reaching_only (Some (i.op.place, i.fields))) z
 answered : (i : Instruction) (z : ℤ) (w : ℕ) → SFits w64 z → Some w ≡ worded (at i (to_z w64 (of_z w64 z))) → Aimed i.op.place i.fields z w
 answered i z w s e = aimed_some i.op.place i.fields z w i.op.real i.ok (e ∙ ap (λ z. worded (at i z)) (to_z-of_z w64 z s))
 
-pub halves_of-requires : goal.halves_of-requires
-halves_of-requires c =
-    let i = c.args.jump.now in
-    let a = answered i c.args.distance c.in_ok-w.w c.ranges.distance c.in_ok-w.ensures in
-    word_small i.op.place (at_distance i.fields c.args.distance) c.in_ok-w.w i.op.real a.ok a.word
-
 pub returns : goal.returns
 returns c =
     let i = c.args.jump.now in
     let a = answered i c.args.distance c.in_ok-w.w c.ranges.distance c.in_ok-w.ensures in
-    ap Some (c.halves_of.ensures ∙ sym (halfwords_by i.op.place (at_distance i.fields c.args.distance) c.in_ok-w.w i.op.real a.word))
+    ap Some (c.of.ensures.all (λ n. word_small i.op.place (at_distance i.fields c.args.distance) c.in_ok-w.w i.op.real a.ok a.word n) ∙ sym (halfwords_by i.op.place (at_distance i.fields c.args.distance) c.in_ok-w.w i.op.real a.word))
     ∙ ap halfwords_found (sym a.is)

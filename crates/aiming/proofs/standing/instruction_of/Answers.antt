@@ -1,4 +1,4 @@
-use Rattle.std.proofs.Common.{◌≡◌, ℕ, Some, None, Option, sym, refl, arith}
+use Rattle.std.proofs.Common.{◌≡◌, ℕ, Some, None, Option, sym, refl}
 use Rattle.instructions.specs.declared.fields.Fields.{Fields}
 use Rattle.instructions.specs.declared.instruction.Instruction.{Instruction}
 use Rattle.reading.specs.Reading.{Reads}
@@ -6,16 +6,13 @@ use Rattle.aiming.specs.Standing.{spelled, instruction_of}
 use Rattle.aiming.proofs.Known.{known, only_known}
 use Rattle.aiming.proofs.standing.instruction_of.Goals as goal
 
-none_some : (P : Type 0) (i : Instruction) → ◌≡◌ {A = Option Instruction} None (Some i) → P
-none_some P i e = absurd (let z : ◌≡◌ {A = ℕ} 0 1 = cc in omega arith)
-
 -- what reads as no instruction is none
 none : (w : ℕ) → Reads w None → (o : Option (ℕ × Fields)) → instruction_of w ≡ o → None ≡ o
 none w h None e = refl
 none w h (Some (k, f)) e =
     let z = only_known w k f e in
     let i : Instruction = record { op = record { place = k; real = z.0 }; fields = f; ok = z.1.ok } in
-    none_some (None ≡ Some (k, f)) i ((h i).1 z.1.word)
+    let read : ◌≡◌ {A = Option Instruction} None (Some i) = (h i).1 z.1.word in cc
 
 told : (w : ℕ) (r : Option Instruction) → Reads w r → spelled r ≡ instruction_of w
 told w None h = none w h (instruction_of w) refl

@@ -1,9 +1,11 @@
-use Rattle.std.proofs.Common.{rules}
-use Rattle.changing.proofs.Entries.{some_at, none_at}
+use Rattle.std.proofs.Common.{◌≡◌, ◌∙◌, rules}
+use Rattle.std.specs.List.{slice_get}
+use Rattle.std.specs.Option.{unwrap_or}
+use Rattle.std.proofs.lemmas.Option.{unwrap_or-slice_get}
 use Rattle.changing.proofs.value.half_at.Goals as goal
 
-pub returns-in-Some : goal.returns-in-Some
-returns-in-Some g c = some_at (g.S.Store.halfwords c.args.store.now) c.args.place c.in-Some.half (search rules)
-
-pub returns-in-None : goal.returns-in-None
-returns-in-None g c = none_at (g.S.Store.halfwords c.args.store.now) c.args.place (search rules)
+pub returns : goal.returns
+returns g c =
+    let hs = g.S.Store.halfwords c.args.store.now in
+    let read : c.unwrap_or.result ≡ unwrap_or (slice_get hs c.args.place) 0 = search rules in
+    read ∙ unwrap_or-slice_get hs c.args.place 0

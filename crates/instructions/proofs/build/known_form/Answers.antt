@@ -4,7 +4,5 @@ use Rattle.instructions.specs.Faults.{Workable}
 use Rattle.instructions.proofs.Forms.{form_agrees}
 use Rattle.instructions.proofs.build.known_form.Goals as goal
 
-pub returns : goal.returns
-returns c =
-    let e = c.form_of.ensures in
-    record { is = e; workable = subst (λ (r : Form). Workable r.n) (sym e) (form_agrees c.args.op.place c.args.op.real).works }
+pub invariant_of-result : goal.invariant_of-result
+invariant_of-result c = record { works = subst (λ (r : Form). Workable r.n) (sym c.form_of-form.ensures) (form_agrees c.args.op.place c.args.op.real).works }

@@ -7,7 +7,7 @@ use Rattle.operations.specs.Manual.{form_at}
 use Rattle.instructions.specs.declared.fields.Fields.{Fields}
 use Rattle.instructions.specs.declared.instruction.Instruction.{Instruction}
 use Rattle.instructions.specs.Faults.{lawful}
-use Rattle.instructions.proofs.Forms.{Agrees, form_agrees, number_32, raw_fits}
+use Rattle.instructions.proofs.Forms.{Agrees, form_agrees, raw_fits}
 use Rattle.instructions.proofs.word.word_of.Goals as goal
 
 -- a form and fields that are the instruction's
@@ -20,15 +20,15 @@ agrees_here i r e = subst Agrees (sym e) (form_agrees i.op.place i.op.real)
 pub raw_of-values-requires : goal.raw_of-values-requires
 raw_of-values-requires c =
     let i = c.args.i.now in
-    let r = c.known_form-form.result in
+    let r = c.known_form-form.result.form in
     let e = c.known_form-form.ensures.is ∙ ap (λ (o : Operation). form_at o.place) c.op.ensures in
-    let l = lawful_here i r c.fields.result e c.fields.ensures in
-    record { works = c.known_form-form.ensures.workable; lawful = l; narrow = number_32 r c.fields.result (agrees_here i r e) l }
+    lawful_here i r c.fields.result e c.fields.ensures
 
 pub word_for-requires : goal.word_for-requires
 word_for-requires c =
     let i = c.args.i.now in
-    let r = c.known_form-form.result in
+    let r = c.known_form-form.result.form in
     let e = c.known_form-form.ensures.is ∙ ap (λ (o : Operation). form_at o.place) c.op.ensures in
     let l = lawful_here i r c.fields.result e c.fields.ensures in
-    record { at = subst (Fit (layout r.kind)) (sym c.raw_of-values.ensures) (raw_fits r c.fields.result (agrees_here i r e) l) }
+    let fits = raw_fits r c.fields.result (agrees_here i r e) l in
+    record { at = subst₂ (λ k v. Fit (layout k) v) (sym c.kind.ensures) (sym c.raw_of-values.ensures) fits }

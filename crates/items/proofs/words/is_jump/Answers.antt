@@ -8,4 +8,4 @@ use Rattle.items.proofs.words.is_jump.Goals as goal
 
 pub returns : goal.returns
 unfolding jumps
-returns c = c.is_reaching.ensures ∙ ap (λ (r : Form). reaches r.kind) c.known_form.ensures.is ∙ ap (λ (o : Operation). reaches (form_at o.place).kind) c.op.ensures
+returns c = c.is_jump.ensures ∙ ap (λ (r : Form). reaches r.kind) c.known_form.ensures.is ∙ ap (λ (o : Operation). reaches (form_at o.place).kind) c.op.ensures

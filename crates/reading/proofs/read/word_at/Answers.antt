@@ -1,10 +1,10 @@
-use Rattle.std.proofs.Common.{◌+◌, sym, ap, arith}
-use Rattle.std.specs.List.{slice_get}
-use Rattle.std.proofs.lemmas.Option.{slice_get_past}
-use Rattle.reading.specs.Places.{begun}
+use Rattle.std.proofs.Common.{◌∙◌, ap}
+use Rattle.std.proofs.Math.Seq.{take-length}
+use Rattle.std.proofs.Common.{take}
+use Rattle.reading.specs.Places.{word_at}
 use Rattle.reading.proofs.read.word_at.Goals as goal
 
-pub returns-then-place-size : goal.returns-then-place-size
-returns-then-place-size g c =
+pub returns : goal.returns
+returns g c =
     let hs = g.S.Store.halfwords c.args.store.now in
-    sym (ap (λ o. begun o (slice_get hs (c.args.place + 1))) (slice_get_past hs c.args.place (omega (arith, c.size.ensures.all))))
+    c.word_within.ensures ∙ ap (λ n. word_at (take n hs) c.args.place) c.size.ensures.all ∙ ap (λ t. word_at t c.args.place) (take-length hs)

@@ -1,13 +1,16 @@
-use Rattle.std.proofs.Common.{◌≡◌, ℕ, Bool, true, false, subst, arith}
-use Rattle.reading.specs.Reading.{Coded}
-use Rattle.reading.proofs.Steps.{values_one}
+use Rattle.std.proofs.Common.{Option, Some, None, MatchOption, Decides, subst, sym, arith}
+use Rattle.std.proofs.lemmas.Grind.{common_steps}
+use Rattle.bits.specs.declared.part.Values.{Values}
+use Rattle.reading.specs.Reading.{Coded, ValuesAs}
+use Rattle.reading.proofs.Steps.{values_kept}
 use Rattle.reading.proofs.word.values_of.Goals as goal
 
-not_both : (b : Bool) → b ≡ true → b ≡ false → ⊥
-not_both b t f = let z : ◌≡◌ {A = ℕ} 0 1 = cc in omega arith
+by : {G N N' : Type 0} {S S' : Values → Type 0} (o : Option Values) → MatchOption o N S → MatchOption o N' S' → (N → N' → G) → ((v : Values) → S v → S' v → G) → G
+by None a b n s = n a b
+by (Some v) a b n s = s v a b
 
-pub returns-else-has_codes : goal.returns-else-has_codes
-returns-else-has_codes c u h k e =
-    let w = c.in_ok-v.ensures in
-    let p = values_one c.args.form.now.kind u c.in_ok-v.v c.args.w h w.0 e w.1 in
-    not_both c.has_codes.result (c.has_codes.ensures.1 (subst (Coded c.args.form.now) p k)) c.if-has_codes.false
+pub returns : goal.returns
+returns c =
+    by c.values_for.result c.values_for.ensures c.filter.ensures
+    (λ n e. subst (ValuesAs c.args.form.now c.args.w) (sym e) (λ v f k. n v f))
+    (λ v g h. let d : Decides h.0 (Coded c.args.form.now v) = grind (arith, common_steps) in values_kept c.args.form.now c.args.w v h.0 c.filter.result g d h.2)

@@ -1,21 +1,12 @@
-use Rattle.std.proofs.Common.{sym, ◌∙◌, arith}
-use Rattle.text.proofs.Commas.{name_here, name_more, name_nowhere}
+use Rattle.std.proofs.Common.{rules}
+use borrow.Author.Tests.{tests}
+use Rattle.std.specs.Str.{bytes_eq}
+use Rattle.std.proofs.lemmas.Iterator.Search.{position_from_yields_List}
+use Rattle.std.proofs.lemmas.Iterator.Splits.{YieldsList-from_slice_split}
 use Rattle.text.proofs.fields.position.Goals as goal
 
-pub returns-then-same : goal.returns-then-same
-returns-then-same c =
-    let s = c.if-same.ensures.is in
-    name_here c.args.line.now c.args.name.now c.loop-at.at c.stop-end.result c.stop-end.ensures.is c.loop-at.k (sym s) ∙ c.loop-at.invariant.2
-
-pub returns-then-end-line : goal.returns-then-end-line
-returns-then-end-line c =
-    let s = c.if-same.ensures.is in
-    name_nowhere c.args.line.now c.args.name.now c.loop-at.at c.stop-end.result c.stop-end.ensures.is c.loop-at.k (sym s) c.if-end-line.true ∙ c.loop-at.invariant.2
-
-pub loop-at-preserved : goal.loop-at-preserved
-loop-at-preserved c =
-    let s = c.if-same.ensures.is in (
-      omega arith,
-      omega arith,
-      name_more c.args.line.now c.args.name.now c.loop-at.at c.stop-end.result c.stop-end.ensures.is c.loop-at.k (sym s) c.if-end-line.false ∙ c.loop-at.invariant.2,
-    )
+pub returns : goal.returns
+returns c =
+    position_from_yields_List (λ f. bytes_eq f c.args.name.now) _ _ c.position.result c.position.ensures.ran
+    (YieldsList-from_slice_split _ _ c.args.line.now c.split.ensures.rest c.split.ensures.done c.split.ensures.closure (λ x r q k. search (rules, tests)))
+    (λ x b q k. search (rules, tests))

@@ -7,7 +7,8 @@ use Rattle.operations.specs.Manual.{form_at}
 use Rattle.instructions.specs.declared.fields.Fields.{Fields}
 use Rattle.instructions.specs.Faults.{build_fault}
 use Rattle.instructions.specs.Words.{shown, halfwords_of}
-use Rattle.program.specs.Calls.{more_used, emitted, after_build}
+use Rattle.records.specs.Records.{more_used}
+use Rattle.program.specs.Calls.{emitted, after_build}
 use Rattle.program.proofs.Built.{broken, whole}
 use Rattle.program.proofs.open.Open.emit_fields.Goals as goal
 

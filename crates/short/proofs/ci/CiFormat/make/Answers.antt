@@ -1,18 +1,21 @@
-use Rattle.bits.specs.declared.part.Field.TheVariants.{D, A, B, N, M, Opcode, Funct3, Funct}
-use Rattle.formats.proofs.Codes.{none_wide, none_there}
-use Rattle.short.specs.declared.operands_of.CiOperands.{CiOperands}
-use Rattle.short.specs.Operands.{Ci-codes}
+use Rattle.std.proofs.Common.{lit<, refl}
+use Rattle.bits.specs.declared.part.Field.TheVariants.{D, A, B, N, M, Funct}
+use Rattle.formats.specs.Layouts.{layout}
+use Rattle.formats.specs.declared.kind.Kind.TheVariants as kind
+use Rattle.formats.proofs.Codes.{none_there}
+use Rattle.formats.proofs.Made.{made, same_values}
+use Rattle.short.specs.Operands.{Ci-values, Ci-fault}
+use Rattle.short.specs.Laws.{Ci-lawful}
 use Rattle.short.proofs.ci.CiFormat.make.Goals as goal
 
 pub of_bits-requires : goal.of_bits-requires
-of_bits-requires c = c.requires.at N
+of_bits-requires c = (lit< tt, c.requires.at N)
 
 pub of_bits-requires-2 : goal.of_bits-requires-2
-of_bits-requires-2 c = c.requires.at D
+of_bits-requires-2 c = (lit< tt, c.requires.at D)
 
 pub returns : goal.returns
 returns c =
     let v = c.args.v.now in
     let h = c.requires.at in
-    let o : CiOperands = record { opcode = v.opcode; imm = c.of_bits.result; rd = c.of_bits-2.result; funct3 = v.funct3 } in
-    (none_wide (Ci-codes o) (h Opcode, (h Funct3, tt)), λ i. record { d = c.of_bits-2.ensures i; a = none_there v.a (h A) i; b = none_there v.b (h B) i; n = c.of_bits.ensures i; m = none_there v.m (h M) i; opcode = v.opcode; funct3 = v.funct3; funct = none_there v.funct (h Funct) i })
+    made Ci-fault Ci-values (layout kind.Ci) Ci-lawful v h (record { opcode = v.opcode; imm = c.of_bits.result; rd = c.of_bits-2.result; funct3 = v.funct3 }) (same_values c.of_bits-2.ensures (none_there v.a (h A)) (none_there v.b (h B)) c.of_bits.ensures (none_there v.m (h M)) refl refl (none_there v.funct (h Funct)))

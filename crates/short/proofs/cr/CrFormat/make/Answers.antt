@@ -1,18 +1,21 @@
-use Rattle.bits.specs.declared.part.Field.TheVariants.{D, A, B, N, M, Opcode, Funct3, Funct}
-use Rattle.formats.proofs.Codes.{none_wide, none_there}
-use Rattle.short.specs.declared.operands_of.CrOperands.{CrOperands}
-use Rattle.short.specs.Operands.{Cr-codes}
+use Rattle.std.proofs.Common.{lit<, refl}
+use Rattle.bits.specs.declared.part.Field.TheVariants.{D, A, B, N, M, Funct3}
+use Rattle.formats.specs.Layouts.{layout}
+use Rattle.formats.specs.declared.kind.Kind.TheVariants as kind
+use Rattle.formats.proofs.Codes.{none_there}
+use Rattle.formats.proofs.Made.{made, same_values}
+use Rattle.short.specs.Operands.{Cr-values, Cr-fault}
+use Rattle.short.specs.Laws.{Cr-lawful}
 use Rattle.short.proofs.cr.CrFormat.make.Goals as goal
 
 pub of_bits-requires : goal.of_bits-requires
-of_bits-requires c = c.requires.at B
+of_bits-requires c = (lit< tt, c.requires.at B)
 
 pub of_bits-requires-2 : goal.of_bits-requires-2
-of_bits-requires-2 c = c.requires.at D
+of_bits-requires-2 c = (lit< tt, c.requires.at D)
 
 pub returns : goal.returns
 returns c =
     let v = c.args.v.now in
     let h = c.requires.at in
-    let o : CrOperands = record { opcode = v.opcode; rs2 = c.of_bits.result; rd = c.of_bits-2.result; funct4 = v.funct } in
-    (none_wide (Cr-codes o) (h Opcode, (h Funct, tt)), λ i. record { d = c.of_bits-2.ensures i; a = none_there v.a (h A) i; b = c.of_bits.ensures i; n = none_there v.n (h N) i; m = none_there v.m (h M) i; opcode = v.opcode; funct3 = none_there v.funct3 (h Funct3) i; funct = v.funct })
+    made Cr-fault Cr-values (layout kind.Cr) Cr-lawful v h (record { opcode = v.opcode; rs2 = c.of_bits.result; rd = c.of_bits-2.result; funct4 = v.funct }) (same_values c.of_bits-2.ensures (none_there v.a (h A)) c.of_bits.ensures (none_there v.n (h N)) (none_there v.m (h M)) refl (none_there v.funct3 (h Funct3)) refl)

@@ -1,14 +1,18 @@
-use Rattle.bits.specs.declared.part.Field.TheVariants.{D, A, B, N, M, Opcode, Funct3, Funct}
-use Rattle.formats.proofs.Codes.{none_wide, none_there}
-use Rattle.vectors.specs.declared.operands_of.VMemOperands.{VMemOperands}
-use Rattle.vectors.specs.Operands.{VMem-codes}
+use Rattle.std.proofs.Common.{lit<, refl}
+use Rattle.bits.specs.declared.part.Field.TheVariants.{D, A, B, N, M, Funct}
+use Rattle.formats.specs.Layouts.{layout}
+use Rattle.formats.specs.declared.kind.Kind.TheVariants as kind
+use Rattle.formats.proofs.Codes.{none_there}
+use Rattle.formats.proofs.Made.{made, same_values}
+use Rattle.vectors.specs.Operands.{VMem-values, VMem-fault}
+use Rattle.vectors.specs.Laws.{VMem-lawful}
 use Rattle.vectors.proofs.v_mem.VMemFormat.make.Goals as goal
 
 pub of_bits-requires : goal.of_bits-requires
-of_bits-requires c = c.requires.at D
+of_bits-requires c = (lit< tt, c.requires.at D)
 
 pub of_bits-requires-2 : goal.of_bits-requires-2
-of_bits-requires-2 c = c.requires.at A
+of_bits-requires-2 c = (lit< tt, c.requires.at A)
 
 pub of_bits-requires-3 : goal.of_bits-requires-3
 of_bits-requires-3 c = c.requires.at M
@@ -17,5 +21,4 @@ pub returns : goal.returns
 returns c =
     let v = c.args.v.now in
     let h = c.requires.at in
-    let o : VMemOperands = record { opcode = v.opcode; vd = c.of_bits.result; width = v.funct3; rs1 = c.of_bits-2.result; masking = c.of_bits-3.result } in
-    (none_wide (VMem-codes o) (h Opcode, (h Funct3, tt)), λ i. record { d = c.of_bits.ensures i; a = c.of_bits-2.ensures i; b = none_there v.b (h B) i; n = none_there v.n (h N) i; m = c.of_bits-3.ensures i; opcode = v.opcode; funct3 = v.funct3; funct = none_there v.funct (h Funct) i })
+    made VMem-fault VMem-values (layout kind.VMem) VMem-lawful v h (record { opcode = v.opcode; vd = c.of_bits.result; width = v.funct3; rs1 = c.of_bits-2.result; masking = c.of_bits-3.result }) (same_values c.of_bits.ensures c.of_bits-2.ensures (none_there v.b (h B)) (none_there v.n (h N)) c.of_bits-3.ensures refl refl (none_there v.funct (h Funct)))

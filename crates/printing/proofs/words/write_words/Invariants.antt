@@ -1,0 +1,12 @@
+use Rattle.std.proofs.Common.{◌≡◌, ◌++◌, take, drop}
+use Rattle.printing.specs.Printed.{words_text}
+use Rattle.printing.specs.Words.{words_from}
+use Rattle.printing.proofs.Printed.{rows}
+use Rattle.printing.proofs.words.write_words.Given as goal
+
+-- the text so far and the lines of the words that are left are the whole text
+abbrev pub invariant-loop-address : goal.invariant-loop-address
+invariant-loop-address g l =
+    let words = l.address-iterator in
+    l.text ++ rows (words_from words.place (drop words.place (take words.used (g.S.Store.halfwords words.store.now))))
+    ≡ words_text (take l.fn.used (g.S.Store.halfwords l.fn.store))
