@@ -1,5 +1,6 @@
 -- A jump at another distance.
-use Rattle.std.proofs.Common.{◌≡◌, ℕ, ◌<◌, Bool, true, false, cond, ℤ, Some, None, Option, sym, refl, ap, ◌∙◌, subst, MatchOption}
+use Rattle.std.proofs.Common.{◌≡◌, ℕ, ◌<◌, true, false, cond, ℤ, Some, None, Option, sym, refl, ap, ◌∙◌, subst, MatchOption}
+use Rattle.std.proofs.lemmas.Bool.{false_from_ne_true}
 use Rattle.bits.specs.declared.part.Field.TheVariants.{N}
 use Rattle.bits.specs.declared.part.Values.{Values}
 use Rattle.bits.specs.Layout.{word, span, Fit}
@@ -26,10 +27,6 @@ not_aimed k f z e = ap (λ b. worded (aimed (cond b (Some (k, f)) None) z)) (sym
 pub aimed_word : (r : Form) (f : Fields) (z : ℤ) (aim : ℤ → ℕ) → raw_number r.n z ≡ aim z → word_of r (at_distance f z) ≡ word (layout r.kind) (with_n (raw r f) (aim z))
 aimed_word r f z aim e = ap (λ x. word (layout r.kind) (with_n (raw r f) x)) e
 
-no : (b : Bool) → (b ≡ true → ⊥) → b ≡ false
-no true n = absurd (n refl)
-no false n = refl
-
 module _ (k : ℕ) (f : Fields) (z : ℤ) (j : reaches (form_at k).kind ≡ true) where
   jump_aimed : worded (aimed (reaching_only (Some (k, f))) z) ≡ worded (cond (number_ok (form_at k).n z) (Some (k, at_distance f z)) None)
   jump_aimed = ap (λ b. worded (aimed (cond b (Some (k, f)) None) z)) j
@@ -39,7 +36,7 @@ module _ (k : ℕ) (f : Fields) (z : ℤ) (j : reaches (form_at k).kind ≡ true
       → MatchOption r (InReach least greatest z → ⊥) (λ x. InReach least greatest z × (x ≡ word (layout (form_at k).kind) (with_n (raw (form_at k) f) (aim z))))
       → r ≡ worded (aimed (reaching_only (Some (k, f))) z)
   aimed_answer least greatest aim D None n =
-      let t = no (number_ok (form_at k).n z) (λ t. n (D.near z t)) in
+      let t = false_from_ne_true (number_ok (form_at k).n z) (λ t. n (D.near z t)) in
       ap (λ b. worded (cond b (Some (k, at_distance f z)) None)) (sym t) ∙ sym jump_aimed
   aimed_answer least greatest aim D (Some x) (h, e) =
       let t = D.ok z h in
@@ -49,7 +46,7 @@ module _ (k : ℕ) (f : Fields) (z : ℤ) (j : reaches (form_at k).kind ≡ true
 -- what the format of the kind K answers, over all fields with the word w
 abbrev Answers : Kind → ℕ → ℤ → ℤ → (ℤ → ℕ) → ℤ → Option ℕ → Type 0
 Answers K w least greatest aim z r =
-    (v : Values) → Fit (layout K) v → true ≡ true → word (layout K) v ≡ w
+    (v : Values) → Fit (layout K) v → word (layout K) v ≡ w
     → MatchOption r (InReach least greatest z → ⊥) (λ x. InReach least greatest z × (x ≡ word (layout K) (with_n v (aim z))))
 
 pub aimed_in : (K : Kind) (least greatest : ℤ) (aim : ℤ → ℕ) → reaches K ≡ true → Distances (Some (Signed (span (layout K) N) 2 All)) least greatest aim
@@ -60,4 +57,4 @@ aimed_in K least greatest aim j D w z r a k f h t p q =
     let jk : reaches (form_at k).kind ≡ true = ap reaches p ∙ j in
     let n : (form_at k).n ≡ Some (Signed (span (layout K) N) 2 All) = jump_number k h jk ∙ ap (λ K. Some (Signed (span (layout K) N) 2 All)) p in
     aimed_answer k f z jk least greatest aim (subst (λ c. Distances c least greatest aim) (sym n) D) r
-    (subst (λ K. Answers K w least greatest aim z r) (sym p) a (raw (form_at k) f) (raw_fits (form_at k) f (form_agrees k h) t) refl q)
+    (subst (λ K. Answers K w least greatest aim z r) (sym p) a (raw (form_at k) f) (raw_fits (form_at k) f (form_agrees k h) t) q)

@@ -1,5 +1,7 @@
 -- The distance of a jump: an even number in reach, and its bits.
 use Rattle.std.proofs.Common.{◌≡◌, ℕ, suc, ◌-◌, ◌*◌, ◌/◌, ◌%◌, ◌^◌, ◌<◌, ◌≤◌, Bool, true, false, cond, ◌&&◌, eqb, Some, None, Option, ℤ, pos, negsuc, sym, refl, ap, ◌∙◌, subst, ap₂, mod-eq_of_lt, arith}
+use Rattle.std.specs.List.{list_all}
+use Rattle.std.proofs.lemmas.Bool.{eqb-true, and_parts}
 use Rattle.std.proofs.lemmas.Bool.Decides.{nat_tests}
 use Rattle.std.proofs.lemmas.Int.{ints}
 use Rattle.bits.specs.declared.part.Field.TheVariants.{N}
@@ -14,7 +16,7 @@ use Rattle.operations.specs.declared.row.Form.{Form}
 use Rattle.operations.specs.Manual.{Entry, operations, form_at, no_entry, count}
 use Rattle.instructions.specs.Faults.{number_ok, reaches}
 use Rattle.instructions.specs.Words.{raw_number}
-use Rattle.instructions.proofs.Checks.{andb, every, every_at}
+use Rattle.instructions.proofs.Checks.{every_at}
 use Rattle.aiming.specs.Standing.{Reaches}
 use Rattle.reading.proofs.Apart.{in_table}
 
@@ -30,16 +32,13 @@ is_distance w (Some (Unsigned k u a)) = false
 abbrev jump_test : Form → Bool
 jump_test r = cond (reaches r.kind) (is_distance (span (layout r.kind) N) r.n) true
 
-all_distances : every (λ (e : Entry). jump_test e.form) operations ≡ true
+all_distances : list_all (λ (e : Entry). jump_test e.form) operations ≡ true
 unfolding operations
 all_distances = refl
 
-is : (a b : ℕ) → eqb a b ≡ true → a ≡ b
-is a b t = grind (arith, nat_tests)
-
 distance_is : (w : ℕ) (c : Option Number) → is_distance w c ≡ true → c ≡ Some (Signed w 2 All)
 distance_is w None t = cc
-distance_is w (Some (Signed k u All)) t = let z = andb (eqb k w) (eqb u 2) t in ap₂ (λ x y. Some (Signed x y All)) (is k w z.0) (is u 2 z.1)
+distance_is w (Some (Signed k u All)) t = let z = and_parts (eqb k w) (eqb u 2) t in ap₂ (λ x y. Some (Signed x y All)) (eqb-true k w z.0) (eqb-true u 2 z.1)
 distance_is w (Some (Signed k u NonZero)) t = cc
 distance_is w (Some (Signed k u GroupSize)) t = cc
 distance_is w (Some (Unsigned k u a)) t = cc

@@ -1,6 +1,6 @@
 -- The instruction that a word is.
 use Rattle.std.proofs.Common.{◌≡◌, ℕ, zero, suc, ◌<◌, ◌≤◌, Bool, true, false, cond, eqb, Some, Option, sym, refl, ap, ◌∙◌, subst, ap₂, not-suc-le-zero, arith}
-use Rattle.std.proofs.lemmas.Bool.Decides.{nat_tests}
+use Rattle.std.proofs.lemmas.Bool.{eqb-true, eq-eqb, and_parts, and_from}
 use Rattle.bits.proofs.Layouts.{picks_only}
 use Rattle.formats.specs.Layouts.{layout}
 use Rattle.formats.proofs.Sound.{layout_sound}
@@ -8,18 +8,11 @@ use Rattle.operations.specs.Manual.{form_at, count}
 use Rattle.instructions.specs.declared.fields.Fields.{Fields}
 use Rattle.instructions.specs.Faults.{lawful}
 use Rattle.instructions.specs.Words.{raw, word_of}
-use Rattle.instructions.proofs.Checks.{andb, and_true}
 use Rattle.instructions.proofs.Forms.{form_agrees, raw_fits}
 use Rattle.reading.specs.Fields.{fields_of}
 use Rattle.reading.proofs.Backs.{fields_back}
 use Rattle.reading.proofs.Apart.{unconfused}
 use Rattle.aiming.specs.Standing.{found_in, is_one, among, instruction_of, InstructionOfExactly}
-
-is : (a b : ℕ) → eqb a b ≡ true → a ≡ b
-is a b t = grind (arith, nat_tests)
-
-eqb_true : (a b : ℕ) → a ≡ b → eqb a b ≡ true
-eqb_true a b e = grind (arith, nat_tests)
 
 -- a lawful instruction's fields are found in its word
 found : (w k : ℕ) (f : Fields) → k < count → lawful (form_at k) f ≡ true → word_of (form_at k) f ≡ w → found_in k w ≡ f
@@ -31,7 +24,7 @@ found w k f h t e =
 is_one_yes : (w k : ℕ) (f : Fields) → k < count → lawful (form_at k) f ≡ true → word_of (form_at k) f ≡ w → is_one k w ≡ true
 is_one_yes w k f h t e =
     let p = found w k f h t e in
-    and_true (lawful (form_at k) (found_in k w)) (eqb (word_of (form_at k) (found_in k w)) w) (ap (lawful (form_at k)) p ∙ t) (eqb_true (word_of (form_at k) (found_in k w)) w (ap (word_of (form_at k)) p ∙ e))
+    and_from (lawful (form_at k) (found_in k w)) (eqb (word_of (form_at k) (found_in k w)) w) (ap (lawful (form_at k)) p ∙ t) (eq-eqb (word_of (form_at k) (found_in k w)) w (ap (word_of (form_at k)) p ∙ e))
 
 -- what the test says
 pub record One (w k : ℕ) (f : Fields) : Type 0 where
@@ -40,8 +33,8 @@ pub record One (w k : ℕ) (f : Fields) : Type 0 where
 
 one : (w k : ℕ) → is_one k w ≡ true → One w k (found_in k w)
 one w k t =
-    let z = andb (lawful (form_at k) (found_in k w)) (eqb (word_of (form_at k) (found_in k w)) w) t in
-    record { ok = z.0; word = is (word_of (form_at k) (found_in k w)) w z.1 }
+    let z = and_parts (lawful (form_at k) (found_in k w)) (eqb (word_of (form_at k) (found_in k w)) w) t in
+    record { ok = z.0; word = eqb-true (word_of (form_at k) (found_in k w)) w z.1 }
 
 pub some_same : {x y : ℕ} {f g : Fields} → ◌≡◌ {A = Option (ℕ × Fields)} (Some (x, f)) (Some (y, g)) → (x ≡ y) × (f ≡ g)
 some_same {x} {y} {f} {g} e =

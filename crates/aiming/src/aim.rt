@@ -2,7 +2,7 @@
 ghost use Rattle.std.specs.Prelude.{◌≡◌, ℕ, ◌<◌, true, Some, MatchOption};
 ghost use Rattle.bits.specs.declared.part.Values.{Values};
 ghost use Rattle.bits.specs.Layout.{word, Fit};
-ghost use Rattle.operands.specs.Ranges.{InReach};
+ghost use Rattle.operands.specs.Ranges.{Reach, halved};
 ghost use Rattle.formats.specs.Layouts.{layout};
 ghost use Rattle.formats.specs.Reaching.{with_n};
 ghost use Rattle.operations.specs.Manual.{form_at, count};
@@ -20,10 +20,10 @@ use instructions::word::{Halfwords, word_of};
 use store::store::Store;
 
 // The word of fields of a reaching format, at the distance `d`: none where that is odd or out of reach.
-fn aim_by<F: Reaching>(w: u32, d: i64) -> Option<u32>
-    ensures { (v : Values) → Fit (layout F.Format.kind) v → F.Format.allows v ≡ true → word (layout F.Format.kind) v ≡ w → MatchOption result (InReach F.Reaching.least F.Reaching.greatest d → ⊥) (λ x. InReach F.Reaching.least F.Reaching.greatest d × (x ≡ word (layout F.Format.kind) (with_n v (F.Reaching.aim d)))) }
+fn aim_by<const WIDTH: u32, F: Reaching<WIDTH>>(w: u32, d: i64) -> Option<u32>
+    ensures { (v : Values) → Fit (layout F.Format.kind) v → word (layout F.Format.kind) v ≡ w → MatchOption result (Reach WIDTH d → ⊥) (λ x. Reach WIDTH d × (x ≡ word (layout F.Format.kind) (with_n v (halved WIDTH d)))) }
 {
-    retarget::<F>(w, d)
+    retarget::<WIDTH, F>(w, d)
 }
 
 // The word of an instruction of that kind, at the distance `d`, if it is a jump that reaches so far.
@@ -31,9 +31,9 @@ fn aim_word(kind: Kind, w: u32, d: i64) -> Option<u32>
     ensures { (k : ℕ) (f : Fields) → k < count → lawful (form_at k) f ≡ true → (form_at k).kind ≡ kind → word_of (form_at k) f ≡ w → result ≡ worded (aimed (reaching_only (Some (k, f))) d) }
 {
     match kind {
-        Kind::B => aim_by::<jumps::b::B>(w, d),
-        Kind::J => aim_by::<jumps::j::J>(w, d),
-        Kind::Cj => aim_by::<jumps::cj::Cj>(w, d),
+        Kind::B => aim_by::<12, jumps::b::B>(w, d),
+        Kind::J => aim_by::<20, jumps::j::J>(w, d),
+        Kind::Cj => aim_by::<11, jumps::cj::Cj>(w, d),
         _ => None,
     }
 }

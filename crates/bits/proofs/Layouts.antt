@@ -1,9 +1,10 @@
 -- One word, one set of fields, and back: for every layout. Assumes nothing.
-use Rattle.std.proofs.Common.{◌≡◌, ℕ, zero, suc, ◌+◌, ◌-◌, ◌*◌, ◌/◌, ◌%◌, ◌^◌, ◌<◌, ◌≤◌, Bool, true, false, cond, ◌&&◌, ◌||◌, eqb, leb, List, [], ◌∷◌, length, sym, refl, ap, ◌∙◌, subst, ap₂, subst₂, lt_of_lt_of_le, mod-lt, mod-eq_of_lt, mul_assoc, div-add-mod', arith, pow_pos, pow_mono, pow-add, shl_lt, shr_lt}
+use Rattle.std.proofs.Common.{◌≡◌, ℕ, zero, suc, ◌+◌, ◌-◌, ◌*◌, ◌/◌, ◌%◌, ◌^◌, ◌<◌, ◌≤◌, Bool, true, false, cond, ◌&&◌, ◌||◌, eqb, leb, List, [], ◌∷◌, length, sym, refl, ap, ◌∙◌, subst, ap₂, subst₂, lt_of_lt_of_le, mod-lt, mod-eq_of_lt, mul_assoc, div-add-mod', arith, pow_pos, pow_mono, pow-add, shl_lt, shr_lt, ⊎_elim}
 use native.Mathlib.Nat.{mod-one, zero-mod, zero-div, mul-mod_left, div-eq_of_lt}
 use lib.Arith.{digits_div, digits_mod, digits_lt}
 use lib.Bits.{bit_and, bit_or, and_block, and_mask, and_lt, and_zero_r, or_shr, or_mod, or_zero_r, or_lt}
 use lib.Pow.{high, low, mod-pow-add, shl-shr, ones_lt}
+use Rattle.std.proofs.lemmas.Bool.{and_parts, cases_Bool, eqb-true}
 use Rattle.std.proofs.lemmas.Bool.Decides.{nat_tests}
 use Rattle.bits.specs.declared.part.Field.{Field}
 use Rattle.bits.specs.declared.part.Field.TheVariants.{D, A, B, N, M, Opcode, Funct3, Funct}
@@ -54,13 +55,6 @@ pub by_cond : (P : ℕ → Type 0) (b : Bool) (x y : ℕ) → (b ≡ true → P 
 by_cond P true x y p q = p refl
 by_cond P false x y p q = q
 
-pub andb : (b c : Bool) → (b && c) ≡ true → (b ≡ true) × (c ≡ true)
-andb true c t = (refl, t)
-andb false c t = grind (arith, t)
-
-pub equal : (a l : ℕ) → eqb a l ≡ true → a ≡ l
-equal a l q = grind (arith, nat_tests)
-
 numbered : ℕ → Field
 numbered zero = D
 numbered (suc zero) = A
@@ -83,10 +77,10 @@ numbered-index Funct3 = refl
 numbered-index Funct = refl
 
 pub same_is : (f g : Field) → same f g ≡ true → f ≡ g
-same_is f g t = sym (numbered-index f) ∙ ap numbered (equal (index f) (index g) t) ∙ numbered-index g
+same_is f g t = sym (numbered-index f) ∙ ap numbered (eqb-true (index f) (index g) t) ∙ numbered-index g
 
 both : (g f : Field) (l a : ℕ) → (same g f && eqb l a) ≡ true → (g ≡ f) × (l ≡ a)
-both g f l a t = let z = andb (same g f) (eqb l a) t in (same_is g f z.0, equal l a z.1)
+both g f l a t = let z = and_parts (same g f) (eqb l a) t in (same_is g f z.0, eqb-true l a z.1)
 
 module _ (q : Part → Bool) (v u : Values) (f : Field) (all : (l w : ℕ) → q (Slice f l w) ≡ true) where
   piece : (s : List Part) (a : ℕ) → Alike q s v u → value_at f v / 2 ^ a % 2 ^ from s f a ≡ value_at f u / 2 ^ a % 2 ^ from s f a
@@ -143,7 +137,7 @@ nothing l w = ap (λ x. x % 2 ^ w) (zero-div (2 ^ l)) ∙ zero-mod (2 ^ w)
 
 quiet : (f : Field) (p : Part) (l w x : ℕ) → apart (p ∷ []) f l w ≡ true → bits_in f p x / 2 ^ l % 2 ^ w ≡ 0
 quiet f (Fixed v c) l w x t = nothing l w
-quiet f (Slice g k v) l w x t = go (same g f) (andb _ _ t).0
+quiet f (Slice g k v) l w x t = go (same g f) (and_parts _ _ t).0
   where
     go : (b : Bool) → cond b (leb (k + v) l || leb (l + w) k) true ≡ true → cond b (x % 2 ^ v * 2 ^ k) 0 / 2 ^ l % 2 ^ w ≡ 0
     go true t = elsewhere (x % 2 ^ v) v k l w (mod-lt x (pow_pos v)) t
@@ -151,7 +145,7 @@ quiet f (Slice g k v) l w x t = go (same g f) (andb _ _ t).0
 
 apart_head : (p : Part) (s : List Part) (f : Field) (l w : ℕ) → apart (p ∷ s) f l w ≡ true → (apart (p ∷ []) f l w ≡ true) × (apart s f l w ≡ true)
 apart_head (Fixed v c) s f l w t = (refl, t)
-apart_head (Slice g k v) s f l w t = let z = andb (cond (same g f) (leb (k + v) l || leb (l + w) k) true) (apart s f l w) t in (ap (λ b. b && true) z.0, z.1)
+apart_head (Slice g k v) s f l w t = let z = and_parts (cond (same g f) (leb (k + v) l || leb (l + w) k) true) (apart s f l w) t in (ap (λ b. b && true) z.0, z.1)
 
 or_quiet : (a b l w : ℕ) → b / 2 ^ l % 2 ^ w ≡ 0 → bit_or a b / 2 ^ l % 2 ^ w ≡ a / 2 ^ l % 2 ^ w
 or_quiet a b l w e = or_at a b l w ∙ ap (bit_or (a / 2 ^ l % 2 ^ w)) e ∙ or_zero_r (a / 2 ^ l % 2 ^ w)
@@ -186,7 +180,7 @@ clears : (s : List Part) (a : Field → ℕ) (g : Field) (k v x : ℕ) → apart
 clears [] a g k v x t c = tt
 clears (Fixed w n ∷ s) a g k v x t c = clears s a g k v x t c
 clears (Slice f l w ∷ s) a g k v x t c =
-    let z = andb (cond (same f g) (leb (l + w) k || leb (k + v) l) true) (apart s g k v) t in
+    let z = and_parts (cond (same f g) (leb (l + w) k || leb (k + v) l) true) (apart s g k v) t in
     (or_quiet (a f) (bits_in f (Slice g k v) x) l w (turn (same f g) refl z.0) ∙ c.0, clears s a g k v x z.1 c.1)
   where
     swap : (b c : Bool) → (b || c) ≡ true → (c || b) ≡ true
@@ -208,8 +202,8 @@ pub stands : (t s : List Part) (a : Field → ℕ) (x : ℕ) → tidy t s ≡ tr
 stands t [] a x h c = tt
 stands t (Fixed w n ∷ s) a x h c = stands t s (λ f. bit_or (a f) 0) (x / 2 ^ w) h (clear_fixed s a w n x c)
 stands t (Slice f l w ∷ s) a x h c =
-    let z = andb (leb (w + l) (span t f)) (apart s f l w && tidy t s) h in
-    let o = andb (apart s f l w) (tidy t s) z.1 in (
+    let z = and_parts (leb (w + l) (span t f)) (apart s f l w && tidy t s) h in
+    let o = and_parts (apart s f l w) (tidy t s) z.1 in (
       kept s (bit_or (a f) (bits_in f (Slice f l w) x)) f l w (x / 2 ^ w) o.0 ∙ self f l w x (a f) c.0,
       stands t s (λ g. bit_or (a g) (bits_in g (Slice f l w) x)) (x / 2 ^ w) o.1 (clears s a f l w x o.0 c.1),
     )
@@ -228,8 +222,8 @@ picks_lt : (t s : List Part) (a : ℕ) (f : Field) (x : ℕ) → tidy t s ≡ tr
 picks_lt t [] a f x h l = l
 picks_lt t (Fixed w c ∷ s) a f x h l = picks_lt t s (bit_or a 0) f (x / 2 ^ w) h (or_lt (span t f) a 0 l (pow_pos (span t f)))
 picks_lt t (Slice g k w ∷ s) a f x h l =
-    let z = andb (leb (w + k) (span t g)) (apart s g k w && tidy t s) h in
-    let o = andb (apart s g k w) (tidy t s) z.1 in
+    let z = and_parts (leb (w + k) (span t g)) (apart s g k w && tidy t s) h in
+    let o = and_parts (apart s g k w) (tidy t s) z.1 in
     picks_lt t s (bit_or a (bits_in f (Slice g k w) x)) f (x / 2 ^ w) o.1
     (or_lt (span t f) a (bits_in f (Slice g k w) x) l
     (by_cond (λ n. n < 2 ^ span t f) (same g f) (x % 2 ^ w * 2 ^ k) 0
@@ -246,16 +240,12 @@ fix_low : (b : Bool) (r w v : ℕ) → r < 2 ^ w → bit_and r (cond b (2 ^ w - 
 fix_low true r w v h e t = sym e ∙ and_mask r w ∙ mod-eq_of_lt h
 fix_low false r w v h e t = grind (arith, t)
 
-pub by_bool : (P : Type 0) (b : Bool) → (b ≡ true → P) → (b ≡ false → P) → P
-by_bool P true f g = f refl
-by_bool P false f g = g refl
-
 lowest : (s : List Part) (u : Values) (y : Field → ℕ) (x : ℕ) (p : Part) → Stands (p ∷ s) y x → ((f : Field) → code f ≡ false → y f ≡ value_at f u) → bit_and (x % 2 ^ width p) (cond (fixed p) (2 ^ width p - 1) 0) ≡ cond (fixed p) (value p u) 0 → value p u ≡ x % 2 ^ width p
 lowest s u y x (Fixed w c) t a e = fix_low true (x % 2 ^ w) w (c % 2 ^ w) (mod-lt x (pow_pos w)) e refl
 lowest s u y x (Slice f l w) t a e =
-    by_bool (value_at f u / 2 ^ l % 2 ^ w ≡ x % 2 ^ w) (code f)
-    (fix_low (code f) (x % 2 ^ w) w (value_at f u / 2 ^ l % 2 ^ w) (mod-lt x (pow_pos w)) e)
+    ⊎_elim (fix_low (code f) (x % 2 ^ w) w (value_at f u / 2 ^ l % 2 ^ w) (mod-lt x (pow_pos w)) e)
     (λ n. ap (λ m. m / 2 ^ l % 2 ^ w) (sym (a f n)) ∙ t.0)
+    (cases_Bool (code f))
 
 -- a word with the fixed bits of the codes in u, and whose other fields are those of u, is u's word
 pub joins : (s : List Part) (u : Values) (y : Field → ℕ) (x : ℕ) → x < 2 ^ total s → bit_and x (mask s) ≡ bits s u → Stands s y x → ((f : Field) → code f ≡ false → y f ≡ value_at f u) → word s u ≡ x

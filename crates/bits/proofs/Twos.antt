@@ -1,8 +1,7 @@
 -- Two's complement at k bits, there and back.
-use Rattle.std.proofs.Common.{◌≡◌, ℕ, suc, ◌+◌, ◌-◌, ◌^◌, ◌<◌, true, false, ℤ, pos, negsuc, nat_abs, sym, ap, ◌∙◌, mod-eq_of_lt, one-add, arith, pow-add}
-use lib.Signed.{mag, lt_z}
+use Rattle.std.proofs.Common.{◌≡◌, ℕ, suc, ◌+◌, ◌-◌, ◌^◌, ◌<◌, ℤ, pos, negsuc, sym, ap, ◌∙◌, mod-eq_of_lt, one-add, arith, pow-add}
+use lib.Signed.{mag}
 use Rattle.std.proofs.lemmas.Bool.Decides.{nat_tests}
-use Rattle.std.proofs.lemmas.Int.{ints}
 use Rattle.bits.specs.Twos.{twos, signed}
 use Rattle.bits.specs.Laws.{TwosExactAt}
 
@@ -15,15 +14,6 @@ twos-neg k n h = ap (λ m. 2 ^ k - suc m) (mod-eq_of_lt h)
 pub twos_lt : (k : ℕ) (z : ℤ) → mag z + mag z < 2 ^ k → twos k z < 2 ^ k
 twos_lt k (pos n) h = let e = twos-pos k n (omega arith) in omega arith
 twos_lt k (negsuc n) h = let e = twos-neg k n (omega arith) in omega arith
-
--- the two's complement by the magnitude, below zero and from zero up
-pub twos_below : (k m : ℕ) (z : ℤ) → lt_z z (pos 0) ≡ true → mag z + mag z < 2 ^ k → m ≡ nat_abs z → 2 ^ k - m ≡ twos k z
-twos_below k m (pos n) t h e = grind (arith, nat_tests, ints)
-twos_below k m (negsuc n) t h e = ap (λ x. 2 ^ k - x) e ∙ sym (twos-neg k n (omega arith))
-
-pub twos_above : (k : ℕ) (z : ℤ) → lt_z z (pos 0) ≡ false → mag z + mag z < 2 ^ k → nat_abs z ≡ twos k z
-twos_above k (pos n) t h = sym (twos-pos k n (omega arith))
-twos_above k (negsuc n) t h = grind (arith, nat_tests, ints)
 
 -- 2 ^ suc k is even
 pub even : (k : ℕ) → 2 ^ suc k ≡ 2 ^ k + 2 ^ k

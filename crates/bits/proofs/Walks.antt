@@ -1,15 +1,16 @@
 -- What a walk along a layout comes to. Assumes nothing.
-use Rattle.std.proofs.Common.{◌≡◌, ℕ, zero, suc, ◌+◌, ◌-◌, ◌*◌, ◌/◌, ◌%◌, ◌^◌, ◌<◌, ◌≤◌, true, cond, ◌&&◌, eqb, leb, List, [], ◌∷◌, length, get_or, drop, reverse, refl, sym, ap, ◌∙◌, subst, ap₂, subst₂, lt_of_lt_of_le, le_of_suc-le-suc, not-suc-le-zero, mod-lt, div-one, arith, drop-cons, pow_pos, pow_mono, shl_exact}
+use Rattle.std.proofs.Common.{◌≡◌, ℕ, zero, suc, ◌+◌, ◌-◌, ◌*◌, ◌/◌, ◌%◌, ◌^◌, ◌<◌, ◌≤◌, true, cond, ◌&&◌, eqb, leb, List, [], ◌∷◌, length, get_or, drop, reverse, sym, ap, ◌∙◌, subst, ap₂, subst₂, lt_of_lt_of_le, le_of_suc-le-suc, not-suc-le-zero, mod-lt, div-one, arith, drop-cons, pow_pos, pow_mono, shl_exact}
 use lib.Bits.{bit_or}
 use Rattle.std.specs.List.{fold, sum_by}
 use Rattle.std.proofs.lemmas.List.{length-reverse, get_or-reverse}
+use Rattle.std.proofs.lemmas.Bool.{and_parts}
 use Rattle.std.proofs.lemmas.Bool.Decides.{nat_tests}
 use Rattle.bits.specs.declared.part.Field.{Field}
 use Rattle.bits.specs.declared.part.Values.{Values}
 use Rattle.bits.specs.declared.part.Part.{Part}
 use Rattle.bits.specs.declared.part.Part.TheVariants.{Fixed, Slice}
 use Rattle.bits.specs.Layout.{index, width, value, total, word, bits_in, pick, handy, Handy, handies, Handies}
-use Rattle.bits.proofs.Layouts.{andb, word_lt}
+use Rattle.bits.proofs.Layouts.{word_lt}
 
 pub handy_width : (p : Part) → Handy p → width p < 32
 handy_width (Fixed w c) h = grind (arith, nat_tests)
@@ -18,19 +19,19 @@ handy_width (Slice f l w) h = grind (arith, nat_tests)
 pub handies_at : (s : List Part) (i : ℕ) (d : Part) → Handies s → i < length s → Handy (get_or s i d) × (total (drop (suc i) s) + width (get_or s i d) ≤ 32)
 handies_at [] i d h l = absurd (not-suc-le-zero l)
 handies_at (p ∷ s) zero d h l =
-    let a = andb (handy p) (leb (total s + width p) 32 && handies s) h in
-    let b = andb (leb (total s + width p) 32) (handies s) a.1 in
+    let a = and_parts (handy p) (leb (total s + width p) 32 && handies s) h in
+    let b = and_parts (leb (total s + width p) 32) (handies s) a.1 in
     (a.0, (let e = b.0 in grind (arith, nat_tests)))
 handies_at (p ∷ s) (suc i) d h l =
-    let a = andb (handy p) (leb (total s + width p) 32 && handies s) h in
-    let b = andb (leb (total s + width p) 32) (handies s) a.1 in
+    let a = and_parts (handy p) (leb (total s + width p) 32 && handies s) h in
+    let b = and_parts (leb (total s + width p) 32) (handies s) a.1 in
     handies_at s i d b.1 (le_of_suc-le-suc l)
 
 pub total_le : (s : List Part) → Handies s → total s ≤ 32
 total_le [] h = omega arith
 total_le (p ∷ s) h =
-    let a = andb (handy p) (leb (total s + width p) 32 && handies s) h in
-    let b = andb (leb (total s + width p) 32) (handies s) a.1 in
+    let a = and_parts (handy p) (leb (total s + width p) 32 && handies s) h in
+    let b = and_parts (leb (total s + width p) 32) (handies s) a.1 in
     let e = b.0 in
     grind (arith, nat_tests)
 

@@ -1,5 +1,5 @@
 // Words by walking the parts of a layout.
-ghost use Rattle.std.specs.Prelude.{◌≡◌, true};
+ghost use Rattle.std.specs.Prelude.{◌≡◌};
 ghost use Rattle.bits.specs.Layout.{word, value, width, bits_in, pick, picks, value_at, Handy, Handies, total};
 
 use crate::fields::{cut, put};

@@ -2,6 +2,7 @@
 #![tactic(auto)]
 
 pub mod fields;
+pub mod halves;
 pub mod laws;
 pub mod layout;
 pub mod part;

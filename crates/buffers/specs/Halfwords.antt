@@ -18,6 +18,11 @@ placed (suc n) xs i w = placed n (slice_set xs i (w % 65536)) (i + 1) (w / 65536
 abbrev pub room : ℕ → List ℕ → ℕ → Bool
 room n xs i = nat_le (i + n) (length xs)
 
+-- a word that has room, and none else
+abbrev pub word_if : Bool → ℕ → Option ℕ
+word_if true w = Some w
+word_if false w = None
+
 -- why a word is not written: a code of its operands is too wide, or else it has no room
 abbrev pub write_fault : Option WideCode → Bool → Option WriteFault
 write_fault (Some e) b = Some (Code e)

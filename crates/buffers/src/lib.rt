@@ -5,10 +5,10 @@ ghost use Rattle.std.specs.Prelude.{◌≡◌, ◌+◌, ◌*◌, ◌^◌, ◌<�
 ghost use Rattle.bits.specs.Layout.{word};
 ghost use Rattle.formats.specs.Layouts.{layout, size};
 ghost use Rattle.formats.specs.Lawful.{outcome};
-ghost use Rattle.buffers.specs.Halfwords.{word_at, placed, room, write_fault, after};
+ghost use Rattle.buffers.specs.Halfwords.{word_at, word_if, placed, room, write_fault, after};
 ghost use Rattle.buffers.specs.declared.WriteFault.TheVariants.{Code as Code-fault};
 
-use bits::fields::{cut, put};
+use bits::halves::{join_halves, split_halves};
 use formats::faults::WideCode;
 use formats::format::Format;
 
@@ -27,36 +27,27 @@ impl From<WideCode> for WriteFault {
     }
 }
 
-// Whether a word of the format has room at `at`.
-fn has_room<F: Format>(halfwords: &[u16], at: usize) -> bool
-    ensures { result ≡ room (size F.kind) halfwords.now at }
+// The word of the format at `at`, where it has room.
+fn word_at<F: Format>(halfwords: &[u16], at: usize) -> Option<u32>
+    ensures { result ≡ word_if (room (size F.kind) halfwords.now at) (word_at (size F.kind) halfwords.now at) }
 {
-    let n = F::halfwords();
-    n <= halfwords.len() && at <= halfwords.len() - n
-}
-
-// The word of the format at `at`.
-// Stays: by indices, since a slice of one or two halfwords would be told apart by its length again.
-fn word_at<F: Format>(halfwords: &[u16], at: usize) -> u32
-    requires { at + size F.kind ≤ length halfwords.now }
-    ensures { result ≡ word_at (size F.kind) halfwords.now at }
-{
-    let low = halfwords[at] as u32;
-    if F::halfwords() == 2 {
-        put(low, halfwords[at + 1] as u32, 16, 16)
-    } else {
-        low
+    match halfwords.get(at..)? {
+        [low, high, ..] if F::halfwords() == 2 => Some(join_halves(*low, *high)),
+        [low, ..] if F::halfwords() == 1 => Some(u32::from(*low)),
+        _ => None,
     }
 }
 
 // Puts the word `w` of the format at `at`.
+// Stays: by indices; as a slice's pattern and as `copy_from_slice` it was tried, and the proof that the slice lent leaves `placed` did not close by itself.
 fn place<F: Format>(halfwords: &mut [u16], at: usize, w: u32)
     requires { at + size F.kind ≤ length halfwords.old }
     ensures { halfwords.new ≡ placed (size F.kind) halfwords.old at w }
 {
-    halfwords[at] = cut(w, 0, 16) as u16;
+    let (low, high) = split_halves(w);
+    halfwords[at] = low;
     if F::halfwords() == 2 {
-        halfwords[at + 1] = cut(w, 16, 16) as u16;
+        halfwords[at + 1] = high;
     }
 }
 
@@ -66,7 +57,7 @@ pub fn write<F: Format>(halfwords: &mut [u16], at: usize, o: &F::Operands) -> Re
     ensures left { halfwords.new ≡ after (write_fault (F.fault o.now) (room (size F.kind) halfwords.old at)) (placed (size F.kind) halfwords.old at (word (layout F.kind) (F.values o.now))) halfwords.old }
 {
     let w = F::encode(o)?;
-    if !has_room::<F>(halfwords, at) {
+    if F::halfwords() > halfwords.len().saturating_sub(at) {
         return Err(WriteFault::Room);
     }
     place::<F>(halfwords, at, w);
@@ -78,10 +69,7 @@ pub fn read_at<F: Format>(halfwords: &[u16], at: usize) -> Option<F::Operands>
     ensures forth { (o : F.Operands) → result ≡ Some o → (F.fault o ≡ None) × (at + size F.kind ≤ length halfwords.now) × (word (layout F.kind) (F.values o) ≡ word_at (size F.kind) halfwords.now at) }
     ensures back { (o : F.Operands) → F.fault o ≡ None → at + size F.kind ≤ length halfwords.now → word (layout F.kind) (F.values o) ≡ word_at (size F.kind) halfwords.now at → result ≡ Some o }
 {
-    if !has_room::<F>(halfwords, at) {
-        return None;
-    }
-    F::read(word_at::<F>(halfwords, at))
+    F::read(word_at::<F>(halfwords, at)?)
 }
 
 // What is written is read again.

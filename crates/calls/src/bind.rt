@@ -17,7 +17,7 @@ pub fn bind(counts: &mut Counts, book: &mut Book, label: i64) -> Result<(), Bind
     ensures book { book.new ≡ when result (label_in book.old counts.old.labels (label_number label) counts.old.used) book.old }
 {
     let number = label_of(label)?;
-    if place_of(book, counts.labels, number).is_some() || counts.labels >= 64 {
+    if place_of(book.labels(*counts), number).is_some() || counts.labels >= book.labels.len() {
         return Err(BindFault::Bound(label));
     }
     book.labels[counts.labels] = LabelRecord {

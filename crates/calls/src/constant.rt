@@ -28,7 +28,7 @@ pub fn constant<S: Store>(
 {
     let register = register_of(d).ok_or(ConstantFault::Register(d))?;
     let (high, low) = generate_imm(value).ok_or(ConstantFault::Range(value))?;
-    if counts.slots >= 32 {
+    if counts.slots >= book.slots.len() {
         return Err(ConstantFault::Slots);
     }
     let place = counts.used;

@@ -1,7 +1,7 @@
 //! The calls that an open program and a try take, over counts, book and store.
 #![tactic(auto)]
 
-// Stays: counts, book and store are three arguments of each call, since a program holds plain numbers alone and is passed its tables and its store.
+// Stays: counts, book and store are passed to each call of a program by design, since it holds plain numbers alone.
 pub mod bind;
 pub mod constant;
 pub mod emit;

@@ -5,7 +5,6 @@ ghost use Rattle.std.specs.Prelude.{◌≡◌, MatchOption, ◌≢◌};
 ghost use Rattle.bits.specs.declared.part.Values.{Values};
 ghost use Rattle.bits.specs.Layout.{word, Fit};
 ghost use Rattle.formats.specs.Layouts.{layout};
-ghost use Rattle.formats.specs.Lawful.{Fits};
 
 use bits::layout::Layout;
 use bits::part::Values;
@@ -62,7 +61,7 @@ pub fn layout_of(kind: Kind) -> Layout<'static>
 
 // The word of fields that fit the kind.
 pub fn word_for(kind: Kind, v: &Values) -> u32
-    requires { Fits kind v.now }
+    requires { Fit (layout kind) v.now }
     ensures { result ≡ word (layout kind) v.now }
 {
     by_format!(kind, word_by, v)

@@ -1,4 +1,3 @@
 pub mod Sound
-pub mod Reading
 pub mod Codes
 pub mod Made

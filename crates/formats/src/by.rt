@@ -1,26 +1,24 @@
 // Words and fields by any format.
-ghost use Rattle.std.specs.Prelude.{◌≡◌, true, MatchOption, ◌≢◌};
+ghost use Rattle.std.specs.Prelude.{◌≡◌, MatchOption, ◌≢◌};
 ghost use Rattle.bits.specs.declared.part.Values.{Values};
 ghost use Rattle.bits.specs.Layout.{word, Fit};
 ghost use Rattle.formats.specs.Layouts.{layout};
-ghost use Rattle.formats.specs.Lawful.{Fits};
 
 use crate::format::Format;
 use bits::part::Values;
 
-// The word of fields that some lawful operands have.
+// The word of fields that fit the format.
 pub fn word_by<F: Format>(v: &Values) -> u32
-    requires fit { Fits F.kind v.now }
-    requires allowed { F.allows v.now ≡ true }
+    requires { Fit (layout F.kind) v.now }
     ensures { result ≡ word (layout F.kind) v.now }
 {
-    let o = F::make(v).unwrap();
+    let o = F::make(v);
     F::encode(&o).unwrap()
 }
 
-// The fields of a word of the format: none where no lawful operands have that word.
+// The fields of a word of the format: none where no fields that fit have that word.
 pub fn values_by<F: Format>(w: u32) -> Option<Values>
-    ensures { MatchOption result ((v : Values) → Fit (layout F.kind) v → F.allows v ≡ true → word (layout F.kind) v ≢ w) (λ v. Fit (layout F.kind) v × (word (layout F.kind) v ≡ w)) }
+    ensures { MatchOption result ((v : Values) → Fit (layout F.kind) v → word (layout F.kind) v ≢ w) (λ v. Fit (layout F.kind) v × (word (layout F.kind) v ≡ w)) }
 {
     let o = F::read(w)?;
     Some(F::split(&o))

@@ -2,6 +2,8 @@
 ghost use Rattle.std.specs.Prelude.{◌≡◌, ◌^◌, ◌<◌, ◌≤◌, MatchResult};
 ghost use Rattle.formats.specs.Codes.{code_of};
 
+use operands::range::fits;
+
 #[derive(Clone, Copy, PartialEq, Eq, Debug)]
 pub enum WideCode {
     Opcode(u32),
@@ -37,9 +39,9 @@ impl WideCode {
 pub fn narrow(code: WideCode, width: u32) -> Result<(), WideCode>
     ensures { MatchResult result (λ done. code_of code < 2 ^ width) (λ e. (2 ^ width ≤ code_of code) × (e ≡ code)) }
 {
-    let value = code.code();
-    if width < 32 && value >> width > 0 {
-        return Err(code);
+    if fits(width, code.code()) {
+        Ok(())
+    } else {
+        Err(code)
     }
-    Ok(())
 }

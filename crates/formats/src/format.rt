@@ -1,8 +1,7 @@
 // The interface of a format: operands, a size, a word, a reading; and its law.
-ghost use Rattle.std.specs.Prelude.{◌≡◌, ℕ, Bool, true, false, Some, None, Option, MatchOption};
-ghost use Rattle.bits.specs.declared.part.Field.{Field};
+ghost use Rattle.std.specs.Prelude.{◌≡◌, Some, None, Option};
 ghost use Rattle.bits.specs.declared.part.Values.{Values};
-ghost use Rattle.bits.specs.Layout.{word, value_at, Fit};
+ghost use Rattle.bits.specs.Layout.{word, Fit};
 ghost use Rattle.formats.specs.declared.kind.Kind.{Kind};
 ghost use Rattle.formats.specs.declared.faults.WideCode.{WideCode};
 ghost use Rattle.formats.specs.Layouts.{layout, size};
@@ -23,9 +22,6 @@ pub trait Format {
     // why operands are not lawful: none where they are
     ghost fault: { Self.Operands → Option WideCode };
 
-    // which fields some lawful operands have
-    ghost allows: { Values → Bool };
-
     // the parts of its words
     fn layout() -> Layout<'static>
         ensures { result.parts.now ≡ layout kind };
@@ -38,9 +34,9 @@ pub trait Format {
     fn split(o: &Self::Operands) -> Values
         ensures { result ≡ values o.now };
 
-    fn make(v: &Values) -> Option<Self::Operands>
+    fn make(v: &Values) -> Self::Operands
         requires { Fits kind v.now }
-        ensures { MatchOption result (allows v.now ≡ false) (λ o. (fault o ≡ None) × (values o ≡ v.now)) };
+        ensures { (fault result ≡ None) × (values result ≡ v.now) };
 
     // how many halfwords its words have
     fn halfwords() -> usize
@@ -67,14 +63,12 @@ pub trait Format {
         if layout.join(&v) != w {
             return None;
         }
-        Self::make(&v)
+        Some(Self::make(&v))
     }
 
     ghost fits: { (o : Self.Operands) → fault o ≡ None → Fit (layout kind) (values o) };
 
     ghost known: { (o p : Self.Operands) → values o ≡ values p → o ≡ p };
 
-    ghost allowed: { (o : Self.Operands) → fault o ≡ None → allows (values o) ≡ true };
-
-    ghost held: { (v : Values) → Fit (layout kind) v → allows v ≡ true → (o : Self.Operands) × ((fault o ≡ None) × (values o ≡ v)) };
+    ghost held: { (v : Values) → Fit (layout kind) v → (o : Self.Operands) × ((fault o ≡ None) × (values o ≡ v)) };
 }

@@ -1,57 +1,75 @@
 // Formats that have a distance in them.
-// Stays: each format states its least and greatest distance, so that the numbers stand as the manual has them.
-ghost use Rattle.std.specs.Prelude.{◌≡◌, ℕ, ℤ, Some, None, MatchOption};
+ghost use Rattle.std.specs.Prelude.{◌≡◌, ℕ, ◌-◌, ◌^◌, ◌<◌, pos, negsuc, Some, None, MatchOption};
 ghost use Rattle.bits.specs.Layout.{word};
-ghost use Rattle.operands.specs.Ranges.{InReach};
+ghost use Rattle.operands.specs.Ranges.{Reach, halved};
+ghost use Rattle.operands.specs.declared.distances.Distance.{Distance};
 ghost use Rattle.formats.specs.Layouts.{layout};
 ghost use Rattle.formats.specs.Reaching.{with_n};
 
 use crate::format::Format;
+use operands::distances::Distance;
 
-pub trait Reaching: Format {
-    ghost least: { ℤ };
+// Formats whose operands have an even distance, with WIDTH bits for its half.
+pub trait Reaching<const WIDTH: u32>: Format {
+    ghost distance: { Self.Operands → Distance WIDTH };
 
-    ghost greatest: { ℤ };
+    // the half has from 1 to 31 bits
+    ghost wide: { 0 < WIDTH };
 
-    // the distance of operands, and how a distance stands in a word
-    ghost distance: { Self.Operands → ℤ };
-
-    ghost aim: { ℤ → ℕ };
+    ghost small: { WIDTH < 32 };
 
     fn least_distance() -> i64
-        ensures { result ≡ least };
+        ensures { result ≡ negsuc (2 ^ WIDTH - 1) }
+    {
+        -(1 << WIDTH)
+    }
 
     fn greatest_distance() -> i64
-        ensures { result ≡ greatest };
+        ensures { result ≡ pos (2 ^ WIDTH - 2) }
+    {
+        (1 << WIDTH) - 2
+    }
+
+    fn distance(o: &Self::Operands) -> Distance<WIDTH>
+        ensures { result ≡ distance o.now };
+
+    // the same operands at another distance
+    fn at_distance(o: &Self::Operands, d: &Distance<WIDTH>) -> Self::Operands
+        ensures { (Self.Format.values result ≡ with_n (Self.Format.values o.now) (halved WIDTH d.now.value)) × (distance result ≡ d.now) };
 
     fn distance_of(o: &Self::Operands) -> i64
-        ensures { result ≡ distance o.now };
+        ensures { result ≡ (distance o.now).value }
+    {
+        Self::distance(o).value()
+    }
 
     // the same operands at the distance `d`
     fn aimed(o: &Self::Operands, d: i64) -> Option<Self::Operands>
-        ensures { MatchOption result (InReach least greatest d → ⊥) (λ p. (Self.Format.values p ≡ with_n (Self.Format.values o.now) (aim d)) × (distance p ≡ d)) };
+        ensures { MatchOption result (Reach WIDTH d → ⊥) (λ p. (Self.Format.values p ≡ with_n (Self.Format.values o.now) (halved WIDTH d)) × ((distance p).value ≡ d)) }
+    {
+        let d = Distance::new(d)?;
+        Some(Self::at_distance(o, &d))
+    }
 
-    ghost near: { (o : Self.Operands) → InReach least greatest (distance o) };
-
-    ghost told: { (o : Self.Operands) → (Self.Format.values o).n ≡ aim (distance o) };
+    ghost told: { (o : Self.Operands) → (Self.Format.values o).n ≡ halved WIDTH (distance o).value };
 
     ghost kept: { (o p : Self.Operands) (x : ℕ) → Self.Format.fault o ≡ None → Self.Format.values p ≡ with_n (Self.Format.values o) x → Self.Format.fault p ≡ None };
 }
 
 // The word of lawful operands at the distance `d`.
-fn word_at<F: Reaching>(o: &F::Operands, d: i64) -> Option<u32>
+fn word_at<const WIDTH: u32, F: Reaching<WIDTH>>(o: &F::Operands, d: i64) -> Option<u32>
     requires { F.Format.fault o.now ≡ None }
-    ensures { MatchOption result (InReach F.Reaching.least F.Reaching.greatest d → ⊥) (λ x. InReach F.Reaching.least F.Reaching.greatest d × (x ≡ word (layout F.Format.kind) (with_n (F.Format.values o.now) (F.Reaching.aim d)))) }
+    ensures { MatchOption result (Reach WIDTH d → ⊥) (λ x. Reach WIDTH d × (x ≡ word (layout F.Format.kind) (with_n (F.Format.values o.now) (halved WIDTH d)))) }
 {
     let p = F::aimed(o, d)?;
     F::encode(&p).ok()
 }
 
 // The word `w` at the distance `d`: none where `w` is no word of the format, or `d` is odd or out of reach.
-pub fn retarget<F: Reaching>(w: u32, d: i64) -> Option<u32>
-    ensures taken { (o : F.Operands) → F.Format.fault o ≡ None → word (layout F.Format.kind) (F.Format.values o) ≡ w → InReach F.Reaching.least F.Reaching.greatest d → result ≡ Some (word (layout F.Format.kind) (with_n (F.Format.values o) (F.Reaching.aim d))) }
-    ensures refused { (x : ℕ) → result ≡ Some x → InReach F.Reaching.least F.Reaching.greatest d × ((o : F.Operands) × ((F.Format.fault o ≡ None) × (word (layout F.Format.kind) (F.Format.values o) ≡ w))) }
+pub fn retarget<const WIDTH: u32, F: Reaching<WIDTH>>(w: u32, d: i64) -> Option<u32>
+    ensures taken { (o : F.Operands) → F.Format.fault o ≡ None → word (layout F.Format.kind) (F.Format.values o) ≡ w → Reach WIDTH d → result ≡ Some (word (layout F.Format.kind) (with_n (F.Format.values o) (halved WIDTH d))) }
+    ensures refused { (x : ℕ) → result ≡ Some x → Reach WIDTH d × ((o : F.Operands) × ((F.Format.fault o ≡ None) × (word (layout F.Format.kind) (F.Format.values o) ≡ w))) }
 {
     let o = F::read(w)?;
-    word_at::<F>(&o, d)
+    word_at::<WIDTH, F>(&o, d)
 }

@@ -1,20 +1,11 @@
 -- What fields without a fault pass.
 use Rattle.std.proofs.Common.{◌≡◌, ℕ, zero, suc, ◌<◌, Bool, true, false, ◌&&◌, List, [], ◌∷◌, length, get_or, Some, None, Option, refl, le_of_suc-le-suc, not-suc-le-zero, arith}
+use Rattle.std.specs.List.{list_all}
+use Rattle.std.proofs.lemmas.Bool.{and_parts}
 use Rattle.operations.specs.declared.row.Form.{Form}
 use Rattle.instructions.specs.declared.fields.Fields.{Fields}
 use Rattle.instructions.specs.declared.fields.BuildFault.{BuildFault}
 use Rattle.instructions.specs.Faults.{Check, check, first, unused_checks, range_checks, rule_checks, overlap_checks, or_else, fault, is_none, lawful}
-
-pub no : (P : Type 0) → false ≡ true → P
-no P t = absurd (let z : ◌≡◌ {A = ℕ} 0 1 = cc in omega arith)
-
-pub andb : (b c : Bool) → (b && c) ≡ true → (b ≡ true) × (c ≡ true)
-andb true c t = (refl, t)
-andb false c t = grind (arith, t)
-
-pub and_true : (b c : Bool) → b ≡ true → c ≡ true → (b && c) ≡ true
-and_true true c t u = u
-and_true false c t u = t
 
 abbrev pub all : List Bool → Bool
 all [] = true
@@ -22,17 +13,13 @@ all (b ∷ bs) = b && all bs
 
 pub test : (bs : List Bool) → all bs ≡ true → (k : ℕ) → get_or bs k true ≡ true
 test [] t k = refl
-test (b ∷ bs) t zero = (andb b (all bs) t).0
-test (b ∷ bs) t (suc k) = test bs (andb b (all bs) t).1 k
+test (b ∷ bs) t zero = (and_parts b (all bs) t).0
+test (b ∷ bs) t (suc k) = test bs (and_parts b (all bs) t).1 k
 
-abbrev pub every : {A : Type 0} → (A → Bool) → List A → Bool
-every f [] = true
-every f (x ∷ xs) = f x && every f xs
-
-pub every_at : {A : Type 0} (f : A → Bool) (xs : List A) (d : A) → every f xs ≡ true → (k : ℕ) → k < length xs → f (get_or xs k d) ≡ true
+pub every_at : {A : Type 0} (f : A → Bool) (xs : List A) (d : A) → list_all f xs ≡ true → (k : ℕ) → k < length xs → f (get_or xs k d) ≡ true
 every_at f [] d t k h = absurd (not-suc-le-zero h)
-every_at f (x ∷ xs) d t zero h = (andb (f x) (every f xs) t).0
-every_at f (x ∷ xs) d t (suc k) h = every_at f xs d (andb (f x) (every f xs) t).1 k (le_of_suc-le-suc h)
+every_at f (x ∷ xs) d t zero h = (and_parts (f x) (list_all f xs) t).0
+every_at f (x ∷ xs) d t (suc k) h = every_at f xs d (and_parts (f x) (list_all f xs) t).1 k (le_of_suc-le-suc h)
 
 -- the tests of the checks
 abbrev pub asked : List Check → List Bool
@@ -41,7 +28,7 @@ asked (check b e ∷ s) = b ∷ asked s
 
 passes : (b : Bool) (e : BuildFault) (s : List Check) → first (check b e ∷ s) ≡ None → (b ≡ true) × (first s ≡ None)
 passes true e s h = (refl, h)
-passes false e s h = absurd (let z : ◌≡◌ {A = ℕ} 0 1 = cc in omega arith)
+passes false e s h = grind (arith, h)
 
 pub passed : (s : List Check) → first s ≡ None → (k : ℕ) → get_or (asked s) k true ≡ true
 passed [] h k = refl
@@ -51,18 +38,18 @@ passed (check b e ∷ s) h (suc k) = passed s (passes b e s h).1 k
 pub none_of : (s : List Check) → all (asked s) ≡ true → first s ≡ None
 none_of [] t = refl
 none_of (check true e ∷ s) t = none_of s t
-none_of (check false e ∷ s) t = absurd (let z : ◌≡◌ {A = ℕ} 0 1 = cc in omega arith)
+none_of (check false e ∷ s) t = grind (arith, t)
 
 or_none : (a b : Option BuildFault) → or_else a b ≡ None → (a ≡ None) × (b ≡ None)
 or_none None b h = (refl, h)
-or_none (Some e) b h = absurd (let z : ◌≡◌ {A = ℕ} 0 1 = cc in omega arith)
+or_none (Some e) b h = grind (arith, h)
 
 pub good : (r : Form) (f : Fields) → lawful r f ≡ true → fault r f ≡ None
 good r f t = go (fault r f) t
   where
     go : (o : Option BuildFault) → is_none o ≡ true → o ≡ None
     go None t = refl
-    go (Some e) t = absurd (let z : ◌≡◌ {A = ℕ} 0 1 = cc in omega arith)
+    go (Some e) t = grind (arith, t)
 
 -- no fault among those of the fields that are not used, of the ranges, of the rules, and of overlaps
 pub record Clean (r : Form) (f : Fields) : Type 0 where

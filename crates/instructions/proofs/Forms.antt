@@ -1,5 +1,6 @@
 -- What holds of each operation by computing, and what follows of an instruction's fields in its word.
 use Rattle.std.proofs.Common.{◌≡◌, ℕ, ◌^◌, ◌<◌, Bool, true, eqb, ltb, leb, List, [], ◌∷◌, Some, None, Option, ℤ, pos, negsuc, sym, refl, subst, arith, pow_pos}
+use Rattle.std.specs.List.{list_all}
 use Rattle.std.proofs.lemmas.Bool.{eqb-true, ltb-true, leb-true}
 use Rattle.std.proofs.lemmas.Bool.Decides.{nat_tests}
 use Rattle.bits.specs.declared.part.Field.TheVariants.{D, A, B, N, M, Opcode, Funct3, Funct}
@@ -17,7 +18,7 @@ use Rattle.operations.proofs.Rows.{operations_length}
 use Rattle.instructions.specs.declared.fields.Fields.{Fields}
 use Rattle.instructions.specs.Faults.{reg_ok, lawful, Workable, SomeBits}
 use Rattle.instructions.specs.Words.{raw_reg, raw_mask, raw}
-use Rattle.instructions.proofs.Checks.{all, test, every, every_at, range_at}
+use Rattle.instructions.proofs.Checks.{all, test, every_at, range_at}
 use Rattle.instructions.proofs.Constants.{number_width, Halved, halved_of, number_lt}
 
 abbrev pub reg_width : Option Use → ℕ
@@ -90,7 +91,7 @@ agrees r t =
       halves = halved_of r.n (works r.n (at 8));
     }
 
-all_agree : every (λ (e : Entry). all (tests e.form)) operations ≡ true
+all_agree : list_all (λ (e : Entry). all (tests e.form)) operations ≡ true
 unfolding operations
 all_agree = refl
 
@@ -103,9 +104,9 @@ form_agrees k h =
 reg_lt : (u : Option Use) (x : ℤ) → reg_ok u x ≡ true → raw_reg u x < 2 ^ reg_width u
 reg_lt None x t = pow_pos 0
 reg_lt (Some (Full c e)) (pos x) t = grind (arith, nat_tests)
-reg_lt (Some (Full c e)) (negsuc x) t = absurd (let z : ◌≡◌ {A = ℕ} 0 1 = cc in omega arith)
+reg_lt (Some (Full c e)) (negsuc x) t = grind (arith, t)
 reg_lt (Some (Short c)) (pos x) t = grind (arith, nat_tests)
-reg_lt (Some (Short c)) (negsuc x) t = absurd (let z : ◌≡◌ {A = ℕ} 0 1 = cc in omega arith)
+reg_lt (Some (Short c)) (negsuc x) t = grind (arith, t)
 
 mask_lt : (u : Option Masking) (m : ℤ) → raw_mask u m < 2 ^ mask_width u
 mask_lt None m = pow_pos 0

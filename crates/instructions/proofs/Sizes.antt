@@ -1,7 +1,8 @@
 -- The low two bits of a word are its operation's, and tell its size.
 use Rattle.std.proofs.Common.{◌≡◌, ℕ, ◌+◌, ◌*◌, ◌/◌, ◌%◌, ◌^◌, ◌<◌, Bool, true, false, cond, eqb, List, [], ◌∷◌, get_or, sym, refl, ap, ◌∙◌, subst, ap₂, mod-lt, mod-eq_of_lt, arith, pow_pos}
 use lib.Bits.{bit_and, and_mod, and_mask}
-use Rattle.std.proofs.lemmas.Bool.{eqb-true}
+use Rattle.std.specs.List.{list_all}
+use Rattle.std.proofs.lemmas.Bool.{false≢true, eqb-true}
 use Rattle.std.proofs.lemmas.Bool.Decides.{nat_tests}
 use Rattle.bits.specs.declared.part.Field.{Field}
 use Rattle.bits.specs.declared.part.Field.TheVariants.{D, A, B, N, M, Opcode, Funct3, Funct}
@@ -18,7 +19,7 @@ use Rattle.instructions.specs.declared.fields.Fields.{Fields}
 use Rattle.instructions.specs.declared.instruction.Instruction.{Instruction}
 use Rattle.instructions.specs.Words.{raw, the_word, halves, halfwords_in}
 use Rattle.instructions.specs.Laws.{LowBitsTell}
-use Rattle.instructions.proofs.Checks.{no, all, test, every, every_at}
+use Rattle.instructions.proofs.Checks.{all, test, every_at}
 
 cond_same : (b : Bool) (x y : ℕ) → (b ≡ true → x ≡ y) → cond b x 0 ≡ cond b y 0
 cond_same true x y h = h refl
@@ -37,11 +38,11 @@ abbrev pub codes : Form → Values
 codes r = record { d = 0; a = 0; b = 0; n = 0; m = 0; opcode = r.opcode; funct3 = r.funct3; funct = r.funct }
 
 same_codes : (r : Form) (f : Fields) (g : Field) → code g ≡ true → value_at g (raw r f) ≡ value_at g (codes r)
-same_codes r f D t = no _ t
-same_codes r f A t = no _ t
-same_codes r f B t = no _ t
-same_codes r f N t = no _ t
-same_codes r f M t = no _ t
+same_codes r f D t = absurd (false≢true t)
+same_codes r f A t = absurd (false≢true t)
+same_codes r f B t = absurd (false≢true t)
+same_codes r f N t = absurd (false≢true t)
+same_codes r f M t = absurd (false≢true t)
 same_codes r f Opcode t = refl
 same_codes r f Funct3 t = refl
 same_codes r f Funct t = refl
@@ -62,7 +63,7 @@ told r =
     ∷ eqb (total (layout r.kind)) (16 * size r.kind)
     ∷ []
 
-all_told : every (λ (e : Entry). all (told e.form)) operations ≡ true
+all_told : list_all (λ (e : Entry). all (told e.form)) operations ≡ true
 unfolding operations
 all_told = refl
 

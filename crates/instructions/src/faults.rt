@@ -1,96 +1,20 @@
 // The first fault of an operation's fields, in the order of refusal.
 ghost use Rattle.std.specs.Prelude.{◌≡◌, ◌&&◌, ◌==◌, true, false, MatchResult, unsigned_abs};
-ghost use Rattle.instructions.specs.Faults.{idle, reg_ok, number_ok, mask_ok, mask_rule, taken, taken_number, vectored, unlike, first, unused_checks, range_checks, rule_checks, overlap_checks, fault, Finds, reaches};
+ghost use Rattle.instructions.specs.Faults.{idle, vectored, unlike, first, unused_checks, range_checks, rule_checks, overlap_checks, fault, Finds};
 ghost use Rattle.instructions.specs.Numbers.{refusal};
 
 use crate::fields::{BuildFault, Fields};
 use crate::form::KnownForm;
+use crate::slot::Slot;
 use bits::part::Field;
-use formats::kind::Kind;
 use operands::regs::Class;
-use operations::row::{Form, Masking, Number, Use};
+use operations::row::{Form, Use};
 
 // Whether the field is used, or else 0.
 fn is_idle<U: Copy>(u: Option<U>, x: i64) -> bool
     ensures { result ≡ idle u x }
 {
     u.is_some() || x == 0
-}
-
-fn reg_fits(u: Option<Use>, x: i64) -> bool
-    ensures { result ≡ reg_ok u x }
-{
-    match u {
-        None => true,
-        Some(Use::Full(_, _)) => (0..32).contains(&x),
-        Some(Use::Short(_)) => (8..16).contains(&x),
-    }
-}
-
-fn number_fits(form: &KnownForm, n: i64) -> bool
-    ensures { result ≡ number_ok form.now.form.n n }
-{
-    let size = n.unsigned_abs();
-    match form.form.n {
-        None => true,
-        Some(Number::Signed { width, unit, .. }) => {
-            let half = 1u64 << (width - 1);
-            let unit = u64::from(unit);
-            if n < 0 {
-                size % unit == 0 && size / unit <= half
-            } else {
-                size % unit == 0 && size / unit < half
-            }
-        }
-        Some(Number::Unsigned { width, unit, .. }) => {
-            let unit = u64::from(unit);
-            n >= 0 && size % unit == 0 && size / unit < 1u64 << width
-        }
-    }
-}
-
-fn mask_fits(u: Option<Masking>, m: i64) -> bool
-    ensures { result ≡ mask_ok u m }
-{
-    u.is_none() || (0..2).contains(&m)
-}
-
-fn mask_rule(u: Option<Masking>, m: i64) -> bool
-    ensures { result ≡ mask_rule u m }
-{
-    match u {
-        None | Some(Masking::Free) => true,
-        Some(Masking::Always) => m.unsigned_abs() == 1,
-        Some(Masking::Never) => m == 0,
-    }
-}
-
-// Whether the field may have that value of its range.
-fn may_be(u: Option<Use>, x: i64) -> bool
-    ensures { result ≡ taken u x }
-{
-    match u {
-        Some(Use::Full(_, except)) => except.permits(x.unsigned_abs()),
-        None | Some(Use::Short(_)) => true,
-    }
-}
-
-fn number_may_be(u: Option<Number>, n: i64) -> bool
-    ensures { result ≡ taken_number u n }
-{
-    match u {
-        None => true,
-        Some(Number::Signed { allowed, .. } | Number::Unsigned { allowed, .. }) => {
-            allowed.allows(n)
-        }
-    }
-}
-
-// Whether the field is a vector register.
-fn is_vector(u: Option<Use>) -> bool
-    ensures { result ≡ vectored u }
-{
-    matches!(u, Some(Use::Full(Class::Vector, _)))
 }
 
 // Whether x and y differ where they must.
@@ -103,7 +27,7 @@ fn differs(must: bool, x: i64, y: u64) -> bool
 fn source_a(form: &Form) -> bool
     ensures { result ≡ (form.now.forbids.sources && vectored form.now.a) }
 {
-    form.forbids.sources && is_vector(form.a)
+    form.forbids.sources && matches!(form.a, Some(Use::Full(Class::Vector, _)))
 }
 
 fn masks_v0(form: &Form, f: &Fields) -> bool
@@ -112,12 +36,14 @@ fn masks_v0(form: &Form, f: &Fields) -> bool
     form.forbids.mask && f.m.unsigned_abs() == 1
 }
 
+// Refuses with that fault what does not hold.
 fn require(holds: bool, fault: BuildFault) -> Result<(), BuildFault>
     ensures { MatchResult result (λ _. holds ≡ true) (λ e. (holds ≡ false) × (e ≡ fault)) }
 {
     if holds { Ok(()) } else { Err(fault) }
 }
 
+// Refuses a value of a field that the operation does not use.
 fn unused(form: &Form, f: &Fields) -> Result<(), BuildFault>
     ensures { Finds result (first (unused_checks form.now f.now)) }
 {
@@ -128,30 +54,30 @@ fn unused(form: &Form, f: &Fields) -> Result<(), BuildFault>
     require(is_idle(form.m, f.m), BuildFault::Unused(Field::M, f.m))
 }
 
+// Refuses a value outside its field's range.
 fn ranges(form: &KnownForm, f: &Fields) -> Result<(), BuildFault>
     ensures { Finds result (first (range_checks form.now.form f.now)) }
 {
     let used = &form.form;
-    require(reg_fits(used.d, f.d), BuildFault::Register(Field::D, f.d))?;
-    require(reg_fits(used.a, f.a), BuildFault::Register(Field::A, f.a))?;
-    require(reg_fits(used.b, f.b), BuildFault::Register(Field::B, f.b))?;
-    require(number_fits(form, f.n), BuildFault::Constant(f.n))?;
-    require(mask_fits(used.m, f.m), BuildFault::MaskBit(f.m))
+    require(used.d.holds(f.d), BuildFault::Register(Field::D, f.d))?;
+    require(used.a.holds(f.a), BuildFault::Register(Field::A, f.a))?;
+    require(used.b.holds(f.b), BuildFault::Register(Field::B, f.b))?;
+    require(used.n.holds(f.n), BuildFault::Constant(f.n))?;
+    require(used.m.holds(f.m), BuildFault::MaskBit(f.m))
 }
 
+// Refuses a value of the range that the operation does not take.
 fn rules(form: &Form, f: &Fields) -> Result<(), BuildFault>
     ensures { Finds result (first (rule_checks form.now f.now)) }
 {
-    require(may_be(form.d, f.d), BuildFault::Forbidden(Field::D, f.d))?;
-    require(may_be(form.a, f.a), BuildFault::Forbidden(Field::A, f.a))?;
-    require(may_be(form.b, f.b), BuildFault::Forbidden(Field::B, f.b))?;
-    require(
-        number_may_be(form.n, f.n),
-        BuildFault::Forbidden(Field::N, f.n),
-    )?;
-    require(mask_rule(form.m, f.m), BuildFault::Masked(f.m))
+    require(form.d.may_be(f.d), BuildFault::Forbidden(Field::D, f.d))?;
+    require(form.a.may_be(f.a), BuildFault::Forbidden(Field::A, f.a))?;
+    require(form.b.may_be(f.b), BuildFault::Forbidden(Field::B, f.b))?;
+    require(form.n.may_be(f.n), BuildFault::Forbidden(Field::N, f.n))?;
+    require(form.m.may_be(f.m), BuildFault::Masked(f.m))
 }
 
+// Refuses a destination that is also a source where the operation forbids it.
 fn overlaps(form: &Form, f: &Fields) -> Result<(), BuildFault>
     ensures { Finds result (first (overlap_checks form.now f.now)) }
 {
@@ -170,7 +96,7 @@ fn overlaps(form: &Form, f: &Fields) -> Result<(), BuildFault>
     )
 }
 
-// Whether the fields are lawful as an instruction of that form, or their first fault.
+// Refuses fields that are not lawful as an instruction of that form, with their first fault.
 pub fn check(form: &KnownForm, f: &Fields) -> Result<(), BuildFault>
     ensures { Finds result (fault form.now.form f.now) }
 {
@@ -178,13 +104,6 @@ pub fn check(form: &KnownForm, f: &Fields) -> Result<(), BuildFault>
     ranges(form, f)?;
     rules(&form.form, f)?;
     overlaps(&form.form, f)
-}
-
-// Whether the format has a distance: its operations are the jumps.
-pub fn is_reaching(kind: Kind) -> bool
-    ensures { result ≡ reaches kind }
-{
-    matches!(kind, Kind::B | Kind::J | Kind::Cj)
 }
 
 impl BuildFault {

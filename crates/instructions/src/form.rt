@@ -2,7 +2,6 @@
 ghost use Rattle.std.specs.Prelude.{◌≡◌};
 ghost use Rattle.instructions.specs.Faults.{Workable, Workable-prop, reaches};
 
-use crate::faults::is_reaching;
 use formats::kind::Kind;
 use operations::row::Form;
 
@@ -27,4 +26,11 @@ impl KnownForm {
     {
         is_reaching(self.kind())
     }
+}
+
+// Whether the format has a distance: its operations are the jumps.
+pub fn is_reaching(kind: Kind) -> bool
+    ensures { result ≡ reaches kind }
+{
+    matches!(kind, Kind::B | Kind::J | Kind::Cj)
 }

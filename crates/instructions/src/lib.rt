@@ -8,4 +8,5 @@ pub mod form;
 pub mod instruction;
 pub mod laws;
 pub mod raws;
+mod slot;
 pub mod word;

@@ -5,6 +5,7 @@ ghost use Rattle.instructions.specs.Words.{the_word, halves, halfwords_in, liste
 use crate::build::known_form;
 use crate::instruction::Instruction;
 use crate::raws::raw_of;
+use bits::halves::{has_second, split_halves};
 use dispatch::word_for;
 
 // A word's halfwords, the low one first.
@@ -20,9 +21,9 @@ impl Halfwords {
         ensures all { (word % 4 ≢ 3 → word < 65536) → listed result ≡ halves (if nat_eq (word % 4) 3 then 2 else 1) word }
         ensures lower { word % 4 ≢ 3 → listed result ≡ halves 1 (word % 65536) }
     {
-        let low = (word & 0xffff) as u16;
-        if word % 4 == 3 {
-            Halfwords::Two(low, (word >> 16) as u16)
+        let (low, high) = split_halves(word);
+        if has_second(low) {
+            Halfwords::Two(low, high)
         } else {
             Halfwords::One(low)
         }

@@ -1,7 +1,7 @@
 // A constant's pair, in the terms of a listing.
 ghost use Rattle.std.specs.Prelude.{◌≡◌, true, false, ℤ, MatchOption};
 ghost use Rattle.operands.specs.Ranges.{made};
-ghost use Rattle.items.specs.Pairs.{register_ok, makeable, pair, held};
+ghost use Rattle.items.specs.Pairs.{register_ok, makeable, pair, held_at};
 
 use operands::generate;
 use operands::imms::{Imm12, Imm20};
@@ -31,8 +31,9 @@ pub fn pair_halves(register: PairRegister, high: Imm20, low: Imm12) -> [u16; 4]
 }
 
 // The number that four halfwords hold, by their bits.
-pub fn held_by(a: u16, b: u16, c: u16, e: u16) -> i64
-    ensures { result ≡ held a b c e }
+#[tactic(auto, unfolding(crate::specs::Pairs::held))]
+pub fn held_by(halves: [u16; 4]) -> i64
+    ensures { result ≡ held_at halves 0 }
 {
-    held_in(a, b, c, e)
+    held_in(halves)
 }

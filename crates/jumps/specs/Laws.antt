@@ -1,5 +1,5 @@
 -- The laws of each format.
-use Rattle.std.proofs.Common.{◌≡◌, ℕ, [], ◌∷◌, true, None, refl, ap, ◌∙◌, lit<}
+use Rattle.std.proofs.Common.{◌≡◌, ℕ, [], ◌∷◌, None, refl, ap, ◌∙◌, lit<}
 use Rattle.bits.specs.declared.part.Values.{Values}
 use Rattle.bits.specs.declared.part.Field.TheVariants.{D, A, B, N, M, Opcode, Funct3, Funct}
 use Rattle.bits.specs.Layout.{Fit}
@@ -11,7 +11,7 @@ use Rattle.formats.specs.Lawful.{check, first_wide}
 use Rattle.formats.specs.Reaching.{with_n}
 use Rattle.formats.proofs.Codes.{narrow, none_wide, none_there}
 use Rattle.formats.proofs.Sound.{fit_of}
-use Rattle.formats.proofs.Made.{made, same_values}
+use Rattle.formats.proofs.Made.{same_values}
 use Rattle.jumps.specs.declared.operands_of.BOperands.{BOperands}
 use Rattle.jumps.specs.declared.operands_of.CjOperands.{CjOperands}
 use Rattle.jumps.specs.declared.operands_of.JOperands.{JOperands}
@@ -24,9 +24,6 @@ B-fits o e =
     let c = narrow (B-codes o) e in
     fit_of (layout kind.B) (B-values o) (lit< tt) o.rs1.ok o.rs2.ok (distance_lt o.distance) (lit< tt) c.0 c.1.0 (lit< tt)
 
-pub B-lawful : (o : BOperands) → Fit (layout kind.B) (B-values o) → B-fault o ≡ None
-B-lawful o f = none_wide (B-codes o) (f Opcode, (f Funct3, tt))
-
 pub B-known : (o p : BOperands) → B-values o ≡ B-values p → o ≡ p
 B-known o p e =
     let at : (f : Values → ℕ) → f (B-values o) ≡ f (B-values p) = λ f. ap f e in
@@ -38,10 +35,11 @@ B-known o p e =
       distance = same_distance o.distance p.distance (at (λ v. v.n)) i;
     }
 
-pub B-held : (v : Values) → Fit (layout kind.B) v → true ≡ true → (o : BOperands) × ((B-fault o ≡ None) × (B-values o ≡ v))
-B-held v h t =
+pub B-held : (v : Values) → Fit (layout kind.B) v → (o : BOperands) × ((B-fault o ≡ None) × (B-values o ≡ v))
+B-held v h =
     let o : BOperands = record { opcode = v.opcode; funct3 = v.funct3; rs1 = record { value = v.a; ok = h A }; rs2 = record { value = v.b; ok = h B }; distance = distance_of 12 v.n (h N) } in
-    (o, made B-fault B-values (layout kind.B) B-lawful v h o (same_values (none_there v.d (h D)) refl refl (distance_of_bits 12 v.n (h N)) (none_there v.m (h M)) refl refl (none_there v.funct (h Funct))))
+    let lawful = none_wide (B-codes o) (h Opcode, (h Funct3, tt)) in
+    (o, (lawful, same_values (none_there v.d (h D)) refl refl (distance_of_bits 12 v.n (h N)) (none_there v.m (h M)) refl refl (none_there v.funct (h Funct))))
 
 pub B-kept : (o p : BOperands) (n : ℕ) → B-fault o ≡ None → B-values p ≡ with_n (B-values o) n → B-fault p ≡ None
 B-kept o p n f e = ap (λ v. first_wide (check v.opcode 7 wide.Opcode ∷ check v.funct3 3 wide.Funct3 ∷ [])) e ∙ f
@@ -53,9 +51,6 @@ Cj-fits o e =
     let c = narrow (Cj-codes o) e in
     fit_of (layout kind.Cj) (Cj-values o) (lit< tt) (lit< tt) (lit< tt) (distance_lt o.distance) (lit< tt) c.0 c.1.0 (lit< tt)
 
-pub Cj-lawful : (o : CjOperands) → Fit (layout kind.Cj) (Cj-values o) → Cj-fault o ≡ None
-Cj-lawful o f = none_wide (Cj-codes o) (f Opcode, (f Funct3, tt))
-
 pub Cj-known : (o p : CjOperands) → Cj-values o ≡ Cj-values p → o ≡ p
 Cj-known o p e =
     let at : (f : Values → ℕ) → f (Cj-values o) ≡ f (Cj-values p) = λ f. ap f e in
@@ -65,10 +60,11 @@ Cj-known o p e =
       funct3 = at (λ v. v.funct3) i;
     }
 
-pub Cj-held : (v : Values) → Fit (layout kind.Cj) v → true ≡ true → (o : CjOperands) × ((Cj-fault o ≡ None) × (Cj-values o ≡ v))
-Cj-held v h t =
+pub Cj-held : (v : Values) → Fit (layout kind.Cj) v → (o : CjOperands) × ((Cj-fault o ≡ None) × (Cj-values o ≡ v))
+Cj-held v h =
     let o : CjOperands = record { opcode = v.opcode; distance = distance_of 11 v.n (h N); funct3 = v.funct3 } in
-    (o, made Cj-fault Cj-values (layout kind.Cj) Cj-lawful v h o (same_values (none_there v.d (h D)) (none_there v.a (h A)) (none_there v.b (h B)) (distance_of_bits 11 v.n (h N)) (none_there v.m (h M)) refl refl (none_there v.funct (h Funct))))
+    let lawful = none_wide (Cj-codes o) (h Opcode, (h Funct3, tt)) in
+    (o, (lawful, same_values (none_there v.d (h D)) (none_there v.a (h A)) (none_there v.b (h B)) (distance_of_bits 11 v.n (h N)) (none_there v.m (h M)) refl refl (none_there v.funct (h Funct))))
 
 pub Cj-kept : (o p : CjOperands) (n : ℕ) → Cj-fault o ≡ None → Cj-values p ≡ with_n (Cj-values o) n → Cj-fault p ≡ None
 Cj-kept o p n f e = ap (λ v. first_wide (check v.opcode 2 wide.Opcode ∷ check v.funct3 3 wide.Funct3 ∷ [])) e ∙ f
@@ -80,9 +76,6 @@ J-fits o e =
     let c = narrow (J-codes o) e in
     fit_of (layout kind.J) (J-values o) o.rd.ok (lit< tt) (lit< tt) (distance_lt o.distance) (lit< tt) c.0 (lit< tt) (lit< tt)
 
-pub J-lawful : (o : JOperands) → Fit (layout kind.J) (J-values o) → J-fault o ≡ None
-J-lawful o f = none_wide (J-codes o) (f Opcode, tt)
-
 pub J-known : (o p : JOperands) → J-values o ≡ J-values p → o ≡ p
 J-known o p e =
     let at : (f : Values → ℕ) → f (J-values o) ≡ f (J-values p) = λ f. ap f e in
@@ -92,10 +85,11 @@ J-known o p e =
       distance = same_distance o.distance p.distance (at (λ v. v.n)) i;
     }
 
-pub J-held : (v : Values) → Fit (layout kind.J) v → true ≡ true → (o : JOperands) × ((J-fault o ≡ None) × (J-values o ≡ v))
-J-held v h t =
+pub J-held : (v : Values) → Fit (layout kind.J) v → (o : JOperands) × ((J-fault o ≡ None) × (J-values o ≡ v))
+J-held v h =
     let o : JOperands = record { opcode = v.opcode; rd = record { value = v.d; ok = h D }; distance = distance_of 20 v.n (h N) } in
-    (o, made J-fault J-values (layout kind.J) J-lawful v h o (same_values refl (none_there v.a (h A)) (none_there v.b (h B)) (distance_of_bits 20 v.n (h N)) (none_there v.m (h M)) refl (none_there v.funct3 (h Funct3)) (none_there v.funct (h Funct))))
+    let lawful = none_wide (J-codes o) (h Opcode, tt) in
+    (o, (lawful, same_values refl (none_there v.a (h A)) (none_there v.b (h B)) (distance_of_bits 20 v.n (h N)) (none_there v.m (h M)) refl (none_there v.funct3 (h Funct3)) (none_there v.funct (h Funct))))
 
 pub J-kept : (o p : JOperands) (n : ℕ) → J-fault o ≡ None → J-values p ≡ with_n (J-values o) n → J-fault p ≡ None
 J-kept o p n f e = ap (λ v. first_wide (check v.opcode 7 wide.Opcode ∷ [])) e ∙ f

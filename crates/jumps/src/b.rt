@@ -1,10 +1,8 @@
 // bit 0 up: opcode 0-6 | imm[11] 7 | imm[4:1] 8-11 | funct3 12-14 | rs1 15-19 | rs2 20-24 | imm[10:5] 25-30 | imm[12] 31
-ghost use Rattle.std.specs.Prelude.{true, pos, negsuc};
-ghost use Rattle.operands.specs.Ranges.{halved};
 ghost use Rattle.formats.specs.declared.kind.Kind.TheVariants.{B as B-kind};
 ghost use Rattle.jumps.specs.Operands.{B-values, B-fault};
 ghost use Rattle.jumps.specs.Laws.{B-fits, B-known, B-held, B-kept};
-ghost use Rattle.std.proofs.Common.{rules};
+ghost use Rattle.std.proofs.Common.{rules, lit<};
 
 use crate::operands_of::BOperands;
 use bits::layout::Layout;
@@ -37,13 +35,9 @@ impl Format for B {
 
     ghost fault = { B-fault };
 
-    ghost allows = { λ v. true };
-
     ghost fits = { B-fits };
 
     ghost known = { B-known };
-
-    ghost allowed = { Prim.search rules };
 
     ghost held = { B-held };
 
@@ -69,48 +63,33 @@ impl Format for B {
         }
     }
 
-    fn make(v: &Values) -> Option<BOperands> {
-        Some(BOperands {
+    fn make(v: &Values) -> BOperands {
+        BOperands {
             opcode: v.opcode,
             funct3: v.funct3,
             rs1: RegNum::of_bits(v.a),
             rs2: RegNum::of_bits(v.b),
             distance: BDistance::of_bits(v.n),
-        })
+        }
     }
 }
 
-impl Reaching for B {
-    ghost least = { negsuc 4095 };
+impl Reaching<12> for B {
+    ghost distance = { λ o. o.distance };
 
-    ghost greatest = { pos 4094 };
+    ghost wide = { lit< tt };
 
-    ghost distance = { λ o. o.distance.value };
-
-    ghost aim = { halved 12 };
-
-    ghost near = { Prim.search rules };
+    ghost small = { lit< tt };
 
     ghost told = { Prim.search rules };
 
     ghost kept = { B-kept };
 
-    fn least_distance() -> i64 {
-        -4096
+    fn distance(o: &BOperands) -> BDistance {
+        o.distance
     }
 
-    fn greatest_distance() -> i64 {
-        4094
-    }
-
-    fn distance_of(o: &BOperands) -> i64 {
-        o.distance.value()
-    }
-
-    fn aimed(o: &BOperands, d: i64) -> Option<BOperands> {
-        Some(BOperands {
-            distance: BDistance::new(d)?,
-            ..*o
-        })
+    fn at_distance(o: &BOperands, d: &BDistance) -> BOperands {
+        BOperands { distance: *d, ..*o }
     }
 }

@@ -1,10 +1,8 @@
 // bit 0 up: opcode 0-1 | imm[5] 2 | imm[3:1] 3-5 | imm[7] 6 | imm[6] 7 | imm[10] 8 | imm[9:8] 9-10 | imm[4] 11 | imm[11] 12 | funct3 13-15
-ghost use Rattle.std.specs.Prelude.{true, pos, negsuc};
-ghost use Rattle.operands.specs.Ranges.{halved};
 ghost use Rattle.formats.specs.declared.kind.Kind.TheVariants.{Cj as Cj-kind};
 ghost use Rattle.jumps.specs.Operands.{Cj-values, Cj-fault};
 ghost use Rattle.jumps.specs.Laws.{Cj-fits, Cj-known, Cj-held, Cj-kept};
-ghost use Rattle.std.proofs.Common.{rules};
+ghost use Rattle.std.proofs.Common.{rules, lit<};
 
 use crate::operands_of::CjOperands;
 use bits::layout::Layout;
@@ -38,13 +36,9 @@ impl Format for Cj {
 
     ghost fault = { Cj-fault };
 
-    ghost allows = { λ v. true };
-
     ghost fits = { Cj-fits };
 
     ghost known = { Cj-known };
-
-    ghost allowed = { Prim.search rules };
 
     ghost held = { Cj-held };
 
@@ -70,46 +64,31 @@ impl Format for Cj {
         }
     }
 
-    fn make(v: &Values) -> Option<CjOperands> {
-        Some(CjOperands {
+    fn make(v: &Values) -> CjOperands {
+        CjOperands {
             opcode: v.opcode,
             distance: CjDistance::of_bits(v.n),
             funct3: v.funct3,
-        })
+        }
     }
 }
 
-impl Reaching for Cj {
-    ghost least = { negsuc 2047 };
+impl Reaching<11> for Cj {
+    ghost distance = { λ o. o.distance };
 
-    ghost greatest = { pos 2046 };
+    ghost wide = { lit< tt };
 
-    ghost distance = { λ o. o.distance.value };
-
-    ghost aim = { halved 11 };
-
-    ghost near = { Prim.search rules };
+    ghost small = { lit< tt };
 
     ghost told = { Prim.search rules };
 
     ghost kept = { Cj-kept };
 
-    fn least_distance() -> i64 {
-        -2048
+    fn distance(o: &CjOperands) -> CjDistance {
+        o.distance
     }
 
-    fn greatest_distance() -> i64 {
-        2046
-    }
-
-    fn distance_of(o: &CjOperands) -> i64 {
-        o.distance.value()
-    }
-
-    fn aimed(o: &CjOperands, d: i64) -> Option<CjOperands> {
-        Some(CjOperands {
-            distance: CjDistance::new(d)?,
-            ..*o
-        })
+    fn at_distance(o: &CjOperands, d: &CjDistance) -> CjOperands {
+        CjOperands { distance: *d, ..*o }
     }
 }

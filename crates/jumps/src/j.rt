@@ -1,10 +1,8 @@
 // bit 0 up: opcode 0-6 | rd 7-11 | imm[19:12] 12-19 | imm[11] 20 | imm[10:1] 21-30 | imm[20] 31
-ghost use Rattle.std.specs.Prelude.{true, pos, negsuc};
-ghost use Rattle.operands.specs.Ranges.{halved};
 ghost use Rattle.formats.specs.declared.kind.Kind.TheVariants.{J as J-kind};
 ghost use Rattle.jumps.specs.Operands.{J-values, J-fault};
 ghost use Rattle.jumps.specs.Laws.{J-fits, J-known, J-held, J-kept};
-ghost use Rattle.std.proofs.Common.{rules};
+ghost use Rattle.std.proofs.Common.{rules, lit<};
 
 use crate::operands_of::JOperands;
 use bits::layout::Layout;
@@ -35,13 +33,9 @@ impl Format for J {
 
     ghost fault = { J-fault };
 
-    ghost allows = { λ v. true };
-
     ghost fits = { J-fits };
 
     ghost known = { J-known };
-
-    ghost allowed = { Prim.search rules };
 
     ghost held = { J-held };
 
@@ -66,46 +60,31 @@ impl Format for J {
         }
     }
 
-    fn make(v: &Values) -> Option<JOperands> {
-        Some(JOperands {
+    fn make(v: &Values) -> JOperands {
+        JOperands {
             opcode: v.opcode,
             rd: RegNum::of_bits(v.d),
             distance: JDistance::of_bits(v.n),
-        })
+        }
     }
 }
 
-impl Reaching for J {
-    ghost least = { negsuc 1048575 };
+impl Reaching<20> for J {
+    ghost distance = { λ o. o.distance };
 
-    ghost greatest = { pos 1048574 };
+    ghost wide = { lit< tt };
 
-    ghost distance = { λ o. o.distance.value };
-
-    ghost aim = { halved 20 };
-
-    ghost near = { Prim.search rules };
+    ghost small = { lit< tt };
 
     ghost told = { Prim.search rules };
 
     ghost kept = { J-kept };
 
-    fn least_distance() -> i64 {
-        -1048576
+    fn distance(o: &JOperands) -> JDistance {
+        o.distance
     }
 
-    fn greatest_distance() -> i64 {
-        1048574
-    }
-
-    fn distance_of(o: &JOperands) -> i64 {
-        o.distance.value()
-    }
-
-    fn aimed(o: &JOperands, d: i64) -> Option<JOperands> {
-        Some(JOperands {
-            distance: JDistance::new(d)?,
-            ..*o
-        })
+    fn at_distance(o: &JOperands, d: &JDistance) -> JOperands {
+        JOperands { distance: *d, ..*o }
     }
 }

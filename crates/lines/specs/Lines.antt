@@ -2,6 +2,7 @@
 use Rattle.std.specs.Prelude.{ℕ, cond, List, length, ℤ, Some, None, Ok, Err, Option, Result, ◌==◌}
 use Rattle.bits.specs.declared.part.Field.TheVariants.{D, A, B, N, M}
 use Rattle.text.specs.Fields.{fields, field_of, text_of}
+use Rattle.text.specs.Found.{found}
 use Rattle.text.specs.Numbers.{value_of}
 use Rattle.operations.specs.Manual.{operations}
 use Rattle.operations.specs.Names.{named}
@@ -10,7 +11,6 @@ use Rattle.lines.specs.declared.columns.Columns.{Columns}
 use Rattle.lines.specs.declared.faults.LineFault.{LineFault}
 use Rattle.lines.specs.declared.faults.LineFault.TheVariants.{FieldCount, UnknownOperation, NoNumber}
 use Rattle.lines.specs.declared.line.Line.{Line}
-use Rattle.lines.specs.Names.{found}
 
 -- the place in the table of the operation that a field names
 abbrev pub operation_at : List ℕ → ℕ → Option ℕ

@@ -1,12 +1,8 @@
 -- The names line: the six names op, d, a, b, n and m in any order.
 use Rattle.std.specs.Prelude.{ℕ, cond, List, length, Some, None, codes, Option, ◌==◌}
 use Rattle.text.specs.Fields.{fields, place_of}
+use Rattle.text.specs.Found.{found}
 use Rattle.lines.specs.declared.columns.Columns.{Columns}
-
--- what is found, and then what follows from it
-abbrev pub found : {A B : Type 0} → Option A → (A → Option B) → Option B
-found None k = None
-found (Some x) k = k x
 
 -- the number of the field with that name
 abbrev pub column : List ℕ → List ℕ → Option ℕ

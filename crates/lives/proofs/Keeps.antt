@@ -25,7 +25,7 @@ use Rattle.lives.specs.declared.types.Fault.TheVariants as life
 use Rattle.lives.specs.Deeds.{raised, answered, counts_by, book_by, words_by, cells_by}
 use Rattle.lives.specs.Listing.{Listing, Mode, end, empty, spot, due, listed}
 use Rattle.lives.specs.Life.{Promise, OnceSealed, Starts, EachHolds}
-use Rattle.lives.specs.Tied.{Tied, Stands, Any, AllStart, Over}
+use Rattle.lives.specs.Tied.{Tied, Any, AllStart, Over}
 use Rattle.lives.specs.Tied as tied
 use Rattle.lives.proofs.Standing.{stands_lawful, snoc_plain, snoc_jump, snoc_slot, holds_code, pair_end}
 

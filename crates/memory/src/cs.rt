@@ -1,11 +1,5 @@
 // A store by a short base register.
-ghost use Rattle.std.specs.Prelude.{◌≡◌, true, refl};
-ghost use Rattle.bits.specs.Layout.{span};
-ghost use Rattle.bits.specs.declared.part.Field.{Field};
-ghost use Rattle.formats.specs.declared.kind.Kind.{Kind};
 ghost use Rattle.formats.specs.declared.kind.Kind.TheVariants.{CsWord, CsDouble};
-ghost use Rattle.formats.specs.Layouts.{layout};
-ghost use Rattle.memory.specs.Spans.{double_store_spans};
 ghost use Rattle.std.proofs.Common.{rules};
 ghost use Rattle.memory.specs.Operands.{Cs-values, Cs-fault};
 ghost use Rattle.memory.specs.Laws.{Cs-fits, Cs-known, Cs-held};
@@ -13,22 +7,18 @@ ghost use Rattle.memory.specs.Laws.{Cs-fits, Cs-known, Cs-held};
 use crate::operands_of::CsOperands;
 use bits::layout::Layout;
 use bits::part::{Field, Part, Values};
-use formats::access::{Double, Word};
+use formats::access::{Access, Double, Family, Word};
 use formats::faults::{WideCode, narrow};
 use formats::format::Format;
 use operands::imms::UImm5;
 use operands::regs::ShortNum;
 use std::marker::PhantomData;
 
-// The layouts of stores, by what they reach: they differ in where the bits of the offset stand.
-// Stays a trait of its own: its law names CsWord, the format whose widths the layouts share.
-pub trait CsAccess {
-    ghost kind: { Kind };
+// Stores by a short base register.
+pub struct Stores;
 
-    fn layout() -> Layout<'static>
-        ensures { result.parts.now ≡ layout kind };
-
-    ghost spans: { (f : Field) → span (layout kind) f ≡ span (layout CsWord) f };
+impl Family for Stores {
+    ghost widths = { CsWord };
 }
 
 // bit 0 up: opcode 0-1 | src 2-4 | imm[6] 5 | imm[2] 6 | base 7-9 | imm[5:3] 10-12 | funct3 13-15
@@ -42,10 +32,10 @@ const WORD: [Part; 7] = [
     Part::Slice(Field::Funct3, 0, 3),
 ];
 
-impl CsAccess for Word {
+impl Access<Stores> for Word {
     ghost kind = { CsWord };
 
-    ghost spans = { λ f. refl };
+    ghost spans = { Prim.search rules };
 
     fn layout() -> Layout<'static> {
         Layout { parts: &WORD }
@@ -62,10 +52,10 @@ const DOUBLE: [Part; 6] = [
     Part::Slice(Field::Funct3, 0, 3),
 ];
 
-impl CsAccess for Double {
+impl Access<Stores> for Double {
     ghost kind = { CsDouble };
 
-    ghost spans = { double_store_spans };
+    ghost spans = { Prim.search rules };
 
     fn layout() -> Layout<'static> {
         Layout { parts: &DOUBLE }
@@ -80,7 +70,7 @@ pub type CsWord = Cs<Word>;
 
 pub type CsDouble = Cs<Double>;
 
-impl<A: CsAccess> Format for Cs<A> {
+impl<A: Access<Stores>> Format for Cs<A> {
     type Operands = CsOperands;
 
     ghost kind = { A.kind };
@@ -89,13 +79,9 @@ impl<A: CsAccess> Format for Cs<A> {
 
     ghost fault = { Cs-fault };
 
-    ghost allows = { λ v. true };
-
     ghost fits = { Cs-fits A.kind A.spans };
 
     ghost known = { Cs-known };
-
-    ghost allowed = { Prim.search rules };
 
     ghost held = { Cs-held A.kind A.spans };
 
@@ -121,13 +107,13 @@ impl<A: CsAccess> Format for Cs<A> {
         }
     }
 
-    fn make(v: &Values) -> Option<CsOperands> {
-        Some(CsOperands {
+    fn make(v: &Values) -> CsOperands {
+        CsOperands {
             opcode: v.opcode,
             src: ShortNum::of_bits(v.b),
             base: ShortNum::of_bits(v.a),
             imm: UImm5::of_bits(v.n),
             funct3: v.funct3,
-        })
+        }
     }
 }

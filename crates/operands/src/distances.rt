@@ -1,8 +1,9 @@
 // Distances of jumps, in bytes, each even.
-ghost use Rattle.std.specs.Prelude.{◌≡◌, ◌^◌, ◌<◌, ◌≤◌, MatchOption, MatchResult};
+ghost use Rattle.std.specs.Prelude.{◌≡◌, ◌^◌, ◌<◌, MatchOption, MatchResult};
 ghost use Rattle.operands.specs.Ranges.{Reach, halved};
 
-use crate::range::{OutOfRange, double, halve, reaches};
+use crate::imms::Unsigned;
+use crate::range::{OutOfRange, halve, reaches};
 
 // An even number whose half has WIDTH bits in two's complement.
 #[derive(Clone, Copy, PartialEq, Eq, Debug)]
@@ -34,6 +35,17 @@ impl<const WIDTH: u32> TryFrom<i64> for Distance<WIDTH> {
     }
 }
 
+// The distance whose bits, without the lowest, these are.
+impl<const WIDTH: u32> From<Unsigned<WIDTH>> for Distance<WIDTH> {
+    ghost from_gives = { λ b d. halved WIDTH d.value ≡ b.value };
+
+    fn from(bits: Unsigned<WIDTH>) -> Distance<WIDTH> {
+        Distance {
+            value: bits.double(),
+        }
+    }
+}
+
 impl<const WIDTH: u32> From<Distance<WIDTH>> for i64 {
     ghost from_gives = { λ d n. n ≡ d.value };
 
@@ -56,16 +68,17 @@ impl<const WIDTH: u32> Distance<WIDTH> {
     }
 
     // The distance whose bits, without the lowest, these are.
+    // Stays: it asks as Unsigned::of_bits does, for those who hold a plain field of a word and the fact that it fits.
     pub fn of_bits(bits: u32) -> Distance<WIDTH>
         requires { bits < 2 ^ WIDTH }
         ensures { halved WIDTH result.value ≡ bits }
     {
-        Distance {
-            value: double(bits, WIDTH),
-        }
+        Distance::from(Unsigned::of_bits(bits))
     }
 }
 
+// Stays: each distance has bits of its own; one body for every width would ask of callers that the width be small, as the bits of a wider
+// number are no u32.
 impl BDistance {
     // The two's complement without its lowest bit: twelve bits.
     pub fn bits(&self) -> u32

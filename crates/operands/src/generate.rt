@@ -21,7 +21,7 @@ pub fn generate_imm(value: i64) -> Option<(Imm20, Imm12)>
     ensures is { MatchOption result (Makeable value → ⊥) (λ p. made p.0.value p.1.value ≡ value) }
     ensures only { (h : Signed 20) (l : Signed 12) → made h.value l.value ≡ value → result ≡ Some (h, l) }
 {
-    if value < -2147485696 || value > 2147481599 {
+    if !(-2147485696..=2147481599).contains(&value) {
         return None;
     }
     Some(pair_of(value))

@@ -1,9 +1,10 @@
 // Immediates.
 ghost use Rattle.std.specs.Prelude.{◌≡◌, ◌^◌, ◌<◌, ◌≤◌, pos, MatchOption, MatchResult};
 ghost use Rattle.bits.specs.Twos.{twos, signed};
-ghost use Rattle.operands.specs.Ranges.{Within, Within5, Within6, Within12, Within20};
+ghost use Rattle.operands.specs.Ranges.{Within, Within5, Within6, Within12, Within20, Reach, halved};
 
-use crate::range::{OutOfRange, cut, extend, fits, holds};
+use crate::range::{OutOfRange, cut, fits, holds};
+use bits::signs::sign;
 
 // A number of WIDTH bits in two's complement.
 #[derive(Clone, Copy, PartialEq, Eq, Debug)]
@@ -38,6 +39,17 @@ impl<const WIDTH: u32> TryFrom<i64> for Signed<WIDTH> {
     }
 }
 
+// The number whose bits these are.
+impl<const WIDTH: u32> From<Unsigned<WIDTH>> for Signed<WIDTH> {
+    ghost from_gives = { λ b i. twos WIDTH i.value ≡ b.value };
+
+    fn from(bits: Unsigned<WIDTH>) -> Signed<WIDTH> {
+        Signed {
+            value: bits.extend(),
+        }
+    }
+}
+
 impl<const WIDTH: u32> From<Signed<WIDTH>> for i64 {
     ghost from_gives = { λ i n. n ≡ i.value };
 
@@ -67,17 +79,17 @@ impl<const WIDTH: u32> Signed<WIDTH> {
     }
 
     // The number whose bits these are.
+    // Stays: it asks as Unsigned::of_bits does, for those who hold a plain field of a word and the fact that it fits.
     pub fn of_bits(bits: u32) -> Signed<WIDTH>
         requires { bits < 2 ^ WIDTH }
         ensures { twos WIDTH result.value ≡ bits }
     {
-        Signed {
-            value: extend(bits, WIDTH),
-        }
+        Signed::from(Unsigned::of_bits(bits))
     }
 }
 
-// Stays: each immediate has bits of its own, as the Rust gives a u8 for some and a u32 for others.
+// Stays: each immediate has bits of its own, a u8 for Imm5 and Imm6 and a u32 for the others; one body for every width would ask of callers
+// that the width be small, as the bits of a wider number are no u32.
 impl Imm5 {
     pub fn maybe_from_i8(val: i8) -> Option<Imm5>
         ensures { MatchOption result (Within5 val → ⊥) (λ i. i.value ≡ val) }
@@ -89,11 +101,8 @@ impl Imm5 {
     pub fn from_bits(value: u8) -> Option<Imm5>
         ensures { MatchOption result (2 ^ 5 ≤ value) (λ i. twos 5 i.value ≡ value) }
     {
-        if value < 32 {
-            Some(Imm5::of_bits(u32::from(value)))
-        } else {
-            None
-        }
+        let bits = UImm5::maybe_from_u8(value)?;
+        Some(Imm5::from(bits))
     }
 
     // The two's complement, cut to five bits.
@@ -244,6 +253,22 @@ impl<const WIDTH: u32> Unsigned<WIDTH> {
         ensures { result.value ≡ value }
     {
         Unsigned { value }
+    }
+
+    // The number that the bits write in two's complement.
+    fn extend(self) -> i64
+        ensures within { Within WIDTH result }
+        ensures is { twos WIDTH result ≡ self.entry.value }
+    {
+        sign(u32::from(self), WIDTH)
+    }
+
+    // The even number that they write in two's complement, where its lowest bit is left out.
+    pub(crate) fn double(self) -> i64
+        ensures reach { Reach WIDTH result }
+        ensures is { halved WIDTH result ≡ self.entry.value }
+    {
+        2 * sign(u32::from(self), WIDTH)
     }
 }
 

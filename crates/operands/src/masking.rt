@@ -30,6 +30,7 @@ impl VecOpMasking {
     }
 
     // The masking whose bit this is.
+    // Stays: it asks for one bit, since a format holds a plain field of a word and the fact that it fits.
     pub fn of_bits(bits: u32) -> VecOpMasking
         requires { bits < 2 }
         ensures { mask_bit result ≡ bits }

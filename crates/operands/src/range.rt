@@ -1,10 +1,10 @@
 // Which numbers a width holds, and the bits that write them.
-ghost use Rattle.std.specs.Prelude.{◌≡◌, ◌^◌, ◌<◌, ◌≤◌, ◌↔◌, IsTrue};
+ghost use Rattle.std.specs.Prelude.{◌≡◌, ◌^◌, ◌<◌, ◌↔◌, IsTrue};
 ghost use Rattle.std.specs.Int.Signed.{mag};
 ghost use Rattle.bits.specs.Twos.{twos};
 ghost use Rattle.operands.specs.Ranges.{Within, Reach, halved};
 
-use bits::signs::{sign, unsign};
+use bits::signs::unsign;
 
 // A number that the type cannot hold.
 #[derive(Clone, Copy, PartialEq, Eq, Debug)]
@@ -22,14 +22,14 @@ fn magnitude(value: i64) -> u64
 }
 
 // Whether `width` bits hold the number.
-pub(crate) fn fits(width: u32, value: u32) -> bool
+pub fn fits(width: u32, value: u32) -> bool
     ensures { IsTrue result ↔ (value < 2 ^ width) }
 {
     width > 31 || value < 1 << width
 }
 
 // Whether two's complement of `width` bits holds the number.
-pub(crate) fn holds(width: u32, value: i64) -> bool
+pub fn holds(width: u32, value: i64) -> bool
     ensures { IsTrue result ↔ Within width value }
 {
     width > 63 || 2 * magnitude(value) < 1 << width
@@ -50,16 +50,7 @@ pub(crate) fn cut(value: i64, width: u32) -> u32
     ensures is { result ≡ twos width value }
     ensures narrow { result < 2 ^ width }
 {
-    unsign(value as i32, width)
-}
-
-// The number that `width` bits write.
-pub(crate) fn extend(bits: u32, width: u32) -> i64
-    requires { bits < 2 ^ width }
-    ensures within { Within width result }
-    ensures is { twos width result ≡ bits }
-{
-    sign(bits, width)
+    unsign(value, width)
 }
 
 // The two's complement of an even number without its lowest bit: `width` bits.
@@ -70,14 +61,5 @@ pub(crate) fn halve(value: i64, width: u32) -> u32
     ensures is { result ≡ halved width value }
     ensures narrow { result < 2 ^ width }
 {
-    unsign(value as i32, width + 1) / 2
-}
-
-// The even number that `width` bits write, where the lowest is left out.
-pub(crate) fn double(bits: u32, width: u32) -> i64
-    requires { bits < 2 ^ width }
-    ensures reach { Reach width result }
-    ensures is { halved width result ≡ bits }
-{
-    2 * sign(bits, width)
+    unsign(value, width + 1) / 2
 }

@@ -2,7 +2,7 @@
 ghost use Rattle.std.specs.Prelude.{◌≡◌, ◌+◌, ◌^◌, ◌<◌, ◌≤◌, ◌⊎◌, MatchOption, MatchResult};
 ghost use Rattle.operands.specs.declared.regs.Class.TheVariants.{Integer, Float, Vector};
 
-use crate::range::OutOfRange;
+use crate::range::{OutOfRange, fits};
 
 // The class of a register.
 #[derive(Clone, Copy, PartialEq, Eq, Debug)]
@@ -26,8 +26,23 @@ pub type RegNum = Num<5>;
 // A short register's number, 8 to 15, kept as it is written: that number less 8.
 pub type ShortNum = Num<3>;
 
+impl<const WIDTH: u32> TryFrom<u32> for Num<WIDTH> {
+    type Error = OutOfRange;
+
+    ghost try_from_gives = { λ n r. MatchResult r (λ m. m.value ≡ n) (λ _. 2 ^ WIDTH ≤ n) };
+
+    fn try_from(value: u32) -> Result<Num<WIDTH>, OutOfRange> {
+        if fits(WIDTH, value) {
+            Ok(Num { value })
+        } else {
+            Err(OutOfRange)
+        }
+    }
+}
+
 impl<const WIDTH: u32> Num<WIDTH> {
     // The number that these bits write.
+    // Stays: it asks what Unsigned::of_bits asks, since a format holds a plain field of a word and the fact that it fits.
     pub fn of_bits(value: u32) -> Num<WIDTH>
         requires { value < 2 ^ WIDTH }
         ensures { result.value ≡ value }
@@ -47,11 +62,7 @@ impl RegNum {
     pub fn new(value: u32) -> Option<RegNum>
         ensures { MatchOption result (32 ≤ value) (λ n. n.value ≡ value) }
     {
-        if value < 32 {
-            Some(Num { value })
-        } else {
-            None
-        }
+        RegNum::try_from(value).ok()
     }
 }
 
@@ -60,7 +71,7 @@ impl ShortNum {
     pub fn new(number: u32) -> Option<ShortNum>
         ensures { MatchOption result ((number < 8) ⊎ (16 ≤ number)) (λ n. n.value + 8 ≡ number) }
     {
-        if number >= 8 && number < 16 {
+        if (8..16).contains(&number) {
             Some(Num { value: number - 8 })
         } else {
             None

@@ -1,15 +1,16 @@
 -- The lines of words.
-use Rattle.std.proofs.Common.{◌≡◌, ℕ, ◌+◌, ◌*◌, ◌%◌, ◌^◌, ◌<◌, ◌≤◌, true, false, cond, eqb, ◌⊎◌, List, [], ◌∷◌, ◌++◌, length, get_or, take, drop, codes, sym, refl, ap, ◌∙◌, ⊎_elim, arith, length-append}
-use Rattle.std.proofs.lemmas.List.{append-nil, drop_all, drop-drop, drop_more, get_or-take, length-take-le}
+use Rattle.std.proofs.Common.{◌≡◌, ℕ, ◌+◌, ◌*◌, ◌%◌, ◌^◌, ◌<◌, ◌≤◌, true, false, cond, eqb, List, [], ◌∷◌, ◌++◌, length, get_or, take, drop, sym, refl, ap, ◌∙◌, arith, length-append}
+use Rattle.std.proofs.lemmas.List.{append-nil, drop_all, drop-drop, drop_more, get_or-take, length-take, length-take-le}
 use Rattle.std.proofs.lemmas.Bool.{cond-true, cond-false, cond_both, eq-eqb, ne_eqb}
 use Rattle.text.specs.Decimal.{digits}
 use Rattle.text.specs.Written.{hex}
 use Rattle.text.proofs.Numerals.{length-digits_le}
 use Rattle.text.proofs.Hex.{length-hex}
-use Rattle.printing.specs.Printed.{comma, newline, word_row, printed, words_text}
-use Rattle.printing.specs.Words.{halves_of, word_from, word_at, words_from, row_of}
-use Rattle.printing.specs.declared.words.Word.{Word}
-use Rattle.printing.specs.declared.words.Word.TheVariants.{Short, Wide}
+use Rattle.printing.specs.Printed.{comma, newline, word_row, printed}
+use Rattle.printing.specs.Words.{word_from, word_at, words_from, row_of}
+use Rattle.text.specs.Words.{halves_of}
+use Rattle.text.specs.declared.words.Word.{Word}
+use Rattle.text.specs.declared.words.Word.TheVariants.{Short, Wide}
 
 -- a halfword that begins no word of two
 pub printed_one : (place x : ℕ) (hs : List ℕ) → (x % 4 ≡ 3 → ⊥) → printed place (x ∷ hs) ≡ word_row place 4 x ++ printed (place + 1) hs
@@ -71,13 +72,13 @@ module _ (all : List ℕ) (used place low : ℕ) (inside : place < used) (stored
   kept : low ≡ get_or (take used all) place 0
   kept = first ∙ sym (get_or-take used all place 0 inside)
 
-  -- a halfword that begins no word of two, or is the last, is a word of its own
-  pub one_half : (low % 4 ≡ 3 → ⊥) ⊎ (used ≤ place + 1) → Short low ≡ word_at (take used all) place
-  one_half why =
-      ap Short kept ∙ ⊎_elim
-      (λ ne. word_short (get_or (take used all) place 0) (drop (place + 1) (take used all)) (λ e. ne (ap (λ x. x % 4) kept ∙ e)))
-      (λ l. ap (word_from (get_or (take used all) place 0)) (sym (drop_all (place + 1) (take used all) (omega (arith, length-take-le used all stored)))))
-      why
+  -- a halfword that begins no word of two is a word of its own
+  pub short_half : (low % 4 ≡ 3 → ⊥) → Short low ≡ word_at (take used all) place
+  short_half ne = ap Short kept ∙ word_short (get_or (take used all) place 0) (drop (place + 1) (take used all)) (λ e. ne (ap (λ x. x % 4) kept ∙ e))
+
+  -- so is the last
+  pub last_half : used ≡ place + 1 → Short low ≡ word_at (take used all) place
+  last_half e = ap Short kept ∙ ap (word_from (get_or (take used all) place 0)) (sym (drop_all (place + 1) (take used all) (omega (arith, length-take-le used all stored))))
 
   -- two halfwords that are a word
   pub two_halves : (high : ℕ) → low % 4 ≡ 3 → place + 1 < used → high ≡ get_or all (place + 1) 0 → Wide (high * 65536 + low) ≡ word_at (take used all) place
@@ -101,9 +102,11 @@ printed_short place (x ∷ (y ∷ hs)) l =
     (λ _. omega (arith, length-append (word_row place 8 (y * 65536 + x)) (printed (place + 2) hs), row_short place (Wide (y * 65536 + x)) (omega arith), printed_short (place + 2) hs (omega arith)))
     (λ _. omega (arith, length-append (word_row place 4 x) (printed (place + 1) (y ∷ hs)), row_short place (Short x) (omega arith), printed_short (place + 1) (y ∷ hs) (omega arith)))
 
--- the whole text
-pub words_short : (hs : List ℕ) → length hs ≤ 256 → length (words_text hs) ≤ 4096
-words_short hs l = omega (arith, length-append (codes "at,word" ++ newline) (printed 0 hs), printed_short 0 hs (omega arith))
+-- those of the used halfwords of a store
+pub rows_short : (used : ℕ) (all : List ℕ) → used ≤ 256 → length (printed 0 (take used all)) ≤ 2304
+rows_short used all l =
+    let t = length-take used all in
+    omega (arith, t, printed_short 0 (take used all) (omega (arith, t)))
 
 -- a line that is still to be written fits
 pub row_fits : (text whole : List ℕ) (address : ℕ) (w : Word) (words rest : List (ℕ × Word)) → text ++ rows words ≡ whole → words ≡ (address, w) ∷ rest → length text + length (row_of address w) ≤ length whole

@@ -1,23 +1,10 @@
--- A word as one halfword or two.
-use Rattle.std.specs.Prelude.{ℕ, ◌+◌, ◌*◌, ◌%◌, cond, List, [], ◌∷◌, drop, ◌==◌, slice_index}
-use Rattle.printing.specs.declared.words.Word.{Word}
-use Rattle.printing.specs.declared.words.Word.TheVariants.{Short, Wide}
-use Rattle.printing.specs.Printed.{line_of}
-
--- how many halfwords a word has
-abbrev pub halves_of : Word → ℕ
-halves_of (Short x) = 1
-halves_of (Wide x) = 2
-
--- how many hexadecimal digits
-abbrev pub digits_of : Word → ℕ
-digits_of (Short x) = 4
-digits_of (Wide x) = 8
-
--- its bits as a number
-abbrev pub bits_of : Word → ℕ
-bits_of (Short x) = x
-bits_of (Wide x) = x
+-- The words of a list of halfwords.
+use Rattle.std.specs.Prelude.{ℕ, ◌+◌, ◌*◌, ◌%◌, cond, List, [], ◌∷◌, ◌++◌, drop, ◌==◌, slice_index}
+use Rattle.text.specs.declared.words.Word.{Word}
+use Rattle.text.specs.declared.words.Word.TheVariants.{Short, Wide}
+use Rattle.text.specs.Decimal.{digits}
+use Rattle.text.specs.Words.{hex_of}
+use Rattle.printing.specs.Printed.{comma, newline}
 
 -- the word that a halfword begins, before others
 abbrev pub word_from : ℕ → List ℕ → Word
@@ -30,7 +17,7 @@ word_at hs place = word_from (slice_index hs place) (drop (place + 1) hs)
 
 -- the line of a word behind its byte address
 abbrev pub row_of : ℕ → Word → List ℕ
-row_of address w = line_of address (digits_of w) (bits_of w)
+row_of address w = digits address ++ comma ++ hex_of w ++ newline
 
 -- the words of a list of halfwords, the first at a place, each with its byte address
 abbrev pub words_from : ℕ → List ℕ → List (ℕ × Word)

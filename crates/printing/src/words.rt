@@ -1,57 +1,13 @@
 // The words of a program as text.
-ghost use Rattle.std.specs.Prelude.{◌≡◌, ◌+◌, ◌*◌, ◌<◌, ◌≤◌, ◌++◌, length, take, drop, slice_index};
+ghost use Rattle.std.specs.Prelude.{◌≡◌, ◌+◌, ◌*◌, ◌<◌, ◌≤◌, ◌++◌, length, take, drop};
 ghost use Rattle.std.specs.Iterator.{YieldsFirst, item_count};
-ghost use Rattle.printing.specs.Printed.{words_text};
-ghost use Rattle.printing.specs.Words.{halves_of, digits_of, bits_of, word_at, words_from, row_of};
+ghost use Rattle.printing.specs.Printed.{printed, words_text};
+ghost use Rattle.printing.specs.Words.{word_at, words_from, row_of};
 
-use store::store::Store;
+use bits::halves::{has_second, join_halves};
+use store::store::{Store, half_at};
+use text::words::Word;
 use text::writing::Text;
-
-// A word of a program: one halfword, or two.
-#[derive(Clone, Copy)]
-enum Word {
-    Short(u16),
-    Wide(u32),
-}
-
-impl Word {
-    // How many halfwords it has.
-    fn halves(self) -> usize
-        ensures { result ≡ halves_of self }
-    {
-        match self {
-            Word::Short(_) => 1,
-            Word::Wide(_) => 2,
-        }
-    }
-
-    // How many hexadecimal digits.
-    fn digits(self) -> usize
-        ensures { result ≡ digits_of self }
-    {
-        match self {
-            Word::Short(_) => 4,
-            Word::Wide(_) => 8,
-        }
-    }
-
-    // It as a number.
-    fn bits(self) -> u32
-        ensures { result ≡ bits_of self }
-    {
-        match self {
-            Word::Short(half) => u32::from(half),
-            Word::Wide(both) => both,
-        }
-    }
-}
-
-// Two halfwords as one word, the low one first. Stays: std has no conversion of two numbers.
-fn joined(low: u16, high: u16) -> u32
-    ensures { result ≡ high * 65536 + low }
-{
-    u32::from(high) * 65536 + u32::from(low)
-}
 
 // The words that stand in the first `used` halfwords of a store, from a place on, each behind its
 // byte address.
@@ -65,25 +21,18 @@ struct Words<'a, S: Store> {
 }
 
 impl<S: Store> Words<'_, S> {
-    // The halfword at a place.
-    fn half_at(&self, place: usize) -> u16
-        requires { place < self.now.used }
-        ensures { result ≡ slice_index (S.halfwords self.now.store.now) place }
-    {
-        self.store.get(place).unwrap_or(0)
-    }
-
     // The word at a place.
+    #[tactic(auto, using(crate::proofs::Printed::short_half, crate::proofs::Printed::last_half, crate::proofs::Printed::two_halves))]
     fn word_at(&self, place: usize) -> Word
         requires { place < self.now.used }
         ensures { result ≡ word_at (take self.now.used (S.halfwords self.now.store.now)) place }
     {
-        let low = self.half_at(place);
-        if low % 4 != 3 || self.used == place + 1 {
+        let low = half_at(self.store, place);
+        if !has_second(low) || self.used == place + 1 {
             return Word::Short(low);
         }
-        let high = self.half_at(place + 1);
-        Word::Wide(joined(low, high))
+        let high = half_at(self.store, place + 1);
+        Word::Wide(join_halves(low, high))
     }
 }
 
@@ -120,35 +69,36 @@ fn write_row(text: &mut Text<4096>, address: u32, word: Word)
 {
     text.write_decimal(address);
     text.write_bytes(b",");
-    text.write_hex(word.bits(), word.digits());
+    text.write_word(word);
     text.write_bytes(b"\n");
 }
 
-// The names line, and the lines of the words. Stays apart from `print_words`: the proof of the loop is this function's, so a wrong call there is
-// refused in the source.
-fn write_words<S: Store>(store: &S, used: usize) -> Text<4096>
+// Writes the lines of the words.
+fn write_rows<S: Store>(text: &mut Text<4096>, words: Words<'_, S>)
+    requires { length text.old + length (printed words.place (drop words.place (take words.used (S.halfwords words.store.now)))) ≤ 4096 }
+    ensures { text.new ≡ text.old ++ printed words.entry.place (drop words.entry.place (take words.entry.used (S.halfwords words.entry.store.now))) }
+{
+    for (address, word) in words {
+        write_row(text, address, word);
+    }
+}
+
+// The text of the words that stand in the first `used` halfwords of a store.
+#[tactic(auto, using(crate::proofs::Printed::rows_short))]
+pub fn print_words<S: Store>(store: &S, used: usize) -> Text<4096>
     requires few { used ≤ 256 }
     requires stored { used ≤ length (S.halfwords store.now) }
     ensures { result ≡ words_text (take used (S.halfwords store.now)) }
 {
     let mut text = Text::new();
     text.write_bytes(b"at,word\n");
-    let words = Words {
-        store,
-        used,
-        place: 0,
-    };
-    for (address, word) in words {
-        write_row(&mut text, address, word);
-    }
+    write_rows(
+        &mut text,
+        Words {
+            store,
+            used,
+            place: 0,
+        },
+    );
     text
-}
-
-// The text of the words that stand in the first `used` halfwords of a store.
-pub fn print_words<S: Store>(store: &S, used: usize) -> Text<4096>
-    requires few { used ≤ 256 }
-    requires stored { used ≤ length (S.halfwords store.now) }
-    ensures { result ≡ words_text (take used (S.halfwords store.now)) }
-{
-    write_words(store, used)
 }

@@ -1,6 +1,7 @@
 // Why a call on a program is refused.
 ghost use Rattle.std.specs.Prelude.{◌≡◌};
 ghost use Rattle.program.specs.declared.faults.EmitFault.TheVariants.{Build, Full};
+ghost use Rattle.program.specs.Calls.{no_room};
 ghost use Rattle.program.specs.Numbers.{refusal};
 
 use instructions::fields::BuildFault;
@@ -19,6 +20,8 @@ pub enum EmitFault {
 }
 
 impl From<StoreFault> for NoRoom {
+    ghost from_gives = { λ s n. n ≡ no_room };
+
     fn from(_s: StoreFault) -> NoRoom {
         NoRoom
     }
@@ -40,6 +43,7 @@ impl From<NoRoom> for EmitFault {
     }
 }
 
+// Stays without a caller: others may lean on it, as it was promised before.
 impl From<StoreFault> for EmitFault {
     ghost from_gives = { λ s e. e ≡ Full };
 

@@ -2,7 +2,8 @@
 use Rattle.std.proofs.Common.{◌≡◌, ℕ, zero, suc, ◌+◌, ◌*◌, ◌/◌, ◌%◌, ◌^◌, ◌<◌, Bool, true, false, cond, not, ◌&&◌, ◌||◌, eqb, ltb, List, [], ◌∷◌, length, get_or, Some, None, Option, ℤ, nat_abs, sym, refl, ap, ◌∙◌, subst, ap₂, suc-le-suc, le_of_suc-le-suc, not-suc-le-zero, mod-lt, zero-lt-suc, div-add-mod', arith}
 use lib.Arith.{bin_ind}
 use lib.Bits.{bit_and, and_shr, and_mod, and_comm}
-use Rattle.std.proofs.lemmas.Bool.{eqb-true, ltb-true}
+use Rattle.std.specs.List.{list_all}
+use Rattle.std.proofs.lemmas.Bool.{false≢true, and_parts, eqb-true, ltb-true}
 use Rattle.std.proofs.lemmas.Bool.Decides.{nat_tests}
 use Rattle.bits.specs.declared.part.Field.{Field}
 use Rattle.bits.specs.declared.part.Field.TheVariants.{D, A, B, N, M, Opcode, Funct3, Funct}
@@ -10,7 +11,7 @@ use Rattle.bits.specs.declared.part.Part.{Part}
 use Rattle.bits.specs.declared.part.Part.TheVariants.{Fixed, Slice}
 use Rattle.bits.specs.declared.part.Values.{Values}
 use Rattle.bits.specs.Layout.{value_at, same, fixed, ones, taken, mask, bits, span}
-use Rattle.bits.proofs.Layouts.{andb, under, one}
+use Rattle.bits.proofs.Layouts.{under, one}
 use Rattle.formats.specs.Layouts.{layout}
 use Rattle.operations.specs.declared.row.Except.TheVariants.{Nothing, Zero, ZeroAndTwo}
 use Rattle.operations.specs.declared.row.Use.{Use}
@@ -19,10 +20,10 @@ use Rattle.operations.specs.declared.row.Form.{Form}
 use Rattle.operations.specs.Manual.{Entry, operations, form_at, no_entry, count}
 use Rattle.operations.proofs.Rows.{operations_length}
 use Rattle.instructions.specs.declared.fields.Fields.{Fields}
-use Rattle.instructions.specs.Faults.{reg_ok, lawful}
+use Rattle.instructions.specs.Faults.{lawful}
 use Rattle.instructions.specs.Faults as rules
 use Rattle.instructions.specs.Words.{raw_reg, raw, word_of}
-use Rattle.instructions.proofs.Checks.{no, every, every_at, rule_at}
+use Rattle.instructions.proofs.Checks.{every_at, rule_at}
 use Rattle.instructions.proofs.Forms.{Agrees, form_agrees, raw_fits}
 use Rattle.instructions.proofs.Sizes.{codes, raw_bits}
 
@@ -94,7 +95,7 @@ only_at Funct c = refl
 abbrev fixed_tests : Form → Bool
 fixed_tests r = eqb r.mask (mask (layout r.kind)) && eqb r.bits (bits (layout r.kind) (codes r))
 
-all_fixed : every (λ (e : Entry). fixed_tests e.form) operations ≡ true
+all_fixed : list_all (λ (e : Entry). fixed_tests e.form) operations ≡ true
 unfolding operations
 all_fixed = refl
 
@@ -108,7 +109,7 @@ pub record Fixes (r : Form) : Type 0 where
 pub form_fixes : (k : ℕ) → k < count → Fixes (form_at k)
 form_fixes k h =
     let r = form_at k in
-    let z = andb (eqb r.mask (mask (layout r.kind))) (eqb r.bits (bits (layout r.kind) (codes r))) (every_at (λ (e : Entry). fixed_tests e.form) operations no_entry all_fixed k (in_table h)) in
+    let z = and_parts (eqb r.mask (mask (layout r.kind))) (eqb r.bits (bits (layout r.kind) (codes r))) (every_at (λ (e : Entry). fixed_tests e.form) operations no_entry all_fixed k (in_table h)) in
     record { mask_is = eqb-true r.mask (mask (layout r.kind)) z.0; bits_is = eqb-true r.bits (bits (layout r.kind) (codes r)) z.1 }
 
 -- an instruction's word has its operation's fixed bits
@@ -152,8 +153,8 @@ self f = grind (arith, nat_tests)
 settled : (a b : Form) (f : Field) (c w : ℕ) (x : Fields) → Agrees a → lawful a x ≡ true → word_of a x ≡ w → bit_and w b.mask ≡ b.bits → settles a b f c ≡ true → value_at f (raw a x) ≡ c
 settled a b f c w x g o e h t =
     let s = layout a.kind in
-    let t1 = andb (ltb c (2 ^ span s f)) _ t in
-    let t2 = andb (eqb (bit_and b.mask (ones (of f) s)) (ones (of f) s)) (eqb (bit_and b.bits (ones (of f) s)) (taken (of f) s (only f c))) t1.1 in
+    let t1 = and_parts (ltb c (2 ^ span s f)) _ t in
+    let t2 = and_parts (eqb (bit_and b.mask (ones (of f) s)) (ones (of f) s)) (eqb (bit_and b.bits (ones (of f) s)) (taken (of f) s (only f c))) t1.1 in
     let m = eqb-true (bit_and b.mask (ones (of f) s)) (ones (of f) s) t2.0 in
     let n = eqb-true (bit_and b.bits (ones (of f) s)) (taken (of f) s (only f c)) t2.1 in
     one (of f) (raw a x) (only f c) f (λ l k. self f) s
@@ -162,30 +163,30 @@ settled a b f c w x g o e h t =
     ∙ only_at f c
 
 clash_of : (x c : ℕ) → not (eqb x c) ≡ true → x ≡ c → ⊥
-clash_of x c t e = let z : ◌≡◌ {A = ℕ} 0 1 = grind (arith, nat_tests) in omega arith
+clash_of x c t e = grind (arith, nat_tests)
 
 not_zero : (u : Option Use) (x : ℤ) → no_zero u ≡ true → rules.taken u x ≡ true → raw_reg u x ≡ 0 → ⊥
-not_zero None x n t e = no ⊥ n
-not_zero (Some (Full c Nothing)) x n t e = no ⊥ n
+not_zero None x n t e = false≢true n
+not_zero (Some (Full c Nothing)) x n t e = false≢true n
 not_zero (Some (Full c Zero)) x n t e = clash_of (nat_abs x) 0 t e
-not_zero (Some (Full c ZeroAndTwo)) x n t e = clash_of (nat_abs x) 0 (andb (not (eqb (nat_abs x) 0)) (not (eqb (nat_abs x) 2)) t).0 e
-not_zero (Some (Short c)) x n t e = no ⊥ n
+not_zero (Some (Full c ZeroAndTwo)) x n t e = clash_of (nat_abs x) 0 (and_parts (not (eqb (nat_abs x) 0)) (not (eqb (nat_abs x) 2)) t).0 e
+not_zero (Some (Short c)) x n t e = false≢true n
 
 not_two : (u : Option Use) (x : ℤ) → no_two u ≡ true → rules.taken u x ≡ true → raw_reg u x ≡ 2 → ⊥
-not_two None x n t e = no ⊥ n
-not_two (Some (Full c Nothing)) x n t e = no ⊥ n
-not_two (Some (Full c Zero)) x n t e = no ⊥ n
-not_two (Some (Full c ZeroAndTwo)) x n t e = clash_of (nat_abs x) 2 (andb (not (eqb (nat_abs x) 0)) (not (eqb (nat_abs x) 2)) t).1 e
-not_two (Some (Short c)) x n t e = no ⊥ n
+not_two None x n t e = false≢true n
+not_two (Some (Full c Nothing)) x n t e = false≢true n
+not_two (Some (Full c Zero)) x n t e = false≢true n
+not_two (Some (Full c ZeroAndTwo)) x n t e = clash_of (nat_abs x) 2 (and_parts (not (eqb (nat_abs x) 0)) (not (eqb (nat_abs x) 2)) t).1 e
+not_two (Some (Short c)) x n t e = false≢true n
 
 voided_not : (a b : Form) (w : ℕ) (x : Fields) → Agrees a → lawful a x ≡ true → word_of a x ≡ w → bit_and w b.mask ≡ b.bits → voided a b ≡ true → ⊥
 voided_not a b w x g o e h t =
     let ok = rule_at a x o in
     orb (no_zero a.b && settles a b B 0) _ ⊥
-    (λ t. let u = andb (no_zero a.b) (settles a b B 0) t in not_zero a.b x.b u.0 (ok 2) (settled a b B 0 w x g o e h u.1))
+    (λ t. let u = and_parts (no_zero a.b) (settles a b B 0) t in not_zero a.b x.b u.0 (ok 2) (settled a b B 0 w x g o e h u.1))
     (orb (no_zero a.a && settles a b A 0) _ ⊥
-    (λ t. let u = andb (no_zero a.a) (settles a b A 0) t in not_zero a.a x.a u.0 (ok 1) (settled a b A 0 w x g o e h u.1))
-    (λ t. let u = andb (no_two a.d) (settles a b D 2) t in not_two a.d x.d u.0 (ok 0) (settled a b D 2 w x g o e h u.1)))
+    (λ t. let u = and_parts (no_zero a.a) (settles a b A 0) t in not_zero a.a x.a u.0 (ok 1) (settled a b A 0 w x g o e h u.1))
+    (λ t. let u = and_parts (no_two a.d) (settles a b D 2) t in not_two a.d x.d u.0 (ok 0) (settled a b D 2 w x g o e h u.1)))
     t
 
 meet : (a b : Form) (w : ℕ) → bit_and w a.mask ≡ a.bits → bit_and w b.mask ≡ b.bits → bit_and a.bits b.mask ≡ bit_and b.bits a.mask
@@ -208,14 +209,14 @@ clash a b x y ga gb fa fb oa ob e t =
 
 abbrev pairwise : {A : Type 0} → (A → A → Bool) → List A → Bool
 pairwise f [] = true
-pairwise f (x ∷ xs) = every (f x) xs && pairwise f xs
+pairwise f (x ∷ xs) = list_all (f x) xs && pairwise f xs
 
 pairwise_at : {A : Type 0} (f : A → A → Bool) (xs : List A) (d : A) → pairwise f xs ≡ true → (i j : ℕ) → i < j → j < length xs → f (get_or xs i d) (get_or xs j d) ≡ true
 pairwise_at f [] d t i j hij hj = absurd (not-suc-le-zero hj)
 pairwise_at f (x ∷ xs) d t zero zero hij hj = absurd (not-suc-le-zero hij)
 pairwise_at f (x ∷ xs) d t (suc i) zero hij hj = absurd (not-suc-le-zero hij)
-pairwise_at f (x ∷ xs) d t zero (suc j) hij hj = every_at (f x) xs d (andb (every (f x) xs) (pairwise f xs) t).0 j (le_of_suc-le-suc hj)
-pairwise_at f (x ∷ xs) d t (suc i) (suc j) hij hj = pairwise_at f xs d (andb (every (f x) xs) (pairwise f xs) t).1 i j (le_of_suc-le-suc hij) (le_of_suc-le-suc hj)
+pairwise_at f (x ∷ xs) d t zero (suc j) hij hj = every_at (f x) xs d (and_parts (list_all (f x) xs) (pairwise f xs) t).0 j (le_of_suc-le-suc hj)
+pairwise_at f (x ∷ xs) d t (suc i) (suc j) hij hj = pairwise_at f xs d (and_parts (list_all (f x) xs) (pairwise f xs) t).1 i j (le_of_suc-le-suc hij) (le_of_suc-le-suc hj)
 
 abbrev forms_differ : Entry → Entry → Bool
 forms_differ a b = differ a.form b.form

@@ -1,5 +1,6 @@
 -- An instruction's fields, out of those of its word and back.
 use Rattle.std.proofs.Common.{◌≡◌, ℕ, suc, ◌+◌, ◌-◌, ◌*◌, ◌/◌, ◌%◌, ◌^◌, ◌<◌, ◌≤◌, Bool, true, false, cond, eqb, ltb, Some, None, Option, ℤ, pos, negsuc, nat_abs, refl, ap, ◌∙◌, subst, mul-pos, mul-div_cancel, arith}
+use Rattle.std.proofs.lemmas.Bool.{false≢true}
 use Rattle.std.proofs.lemmas.Bool.Decides.{nat_tests}
 use Rattle.bits.specs.declared.part.Field.TheVariants.{D, A, B, N, M}
 use Rattle.bits.specs.declared.part.Values.{Values}
@@ -16,7 +17,7 @@ use Rattle.operations.specs.declared.row.Form.{Form}
 use Rattle.instructions.specs.declared.fields.Fields.{Fields}
 use Rattle.instructions.specs.Faults.{idle, reg_ok, number_ok, mask_ok, lawful, Workable}
 use Rattle.instructions.specs.Words.{raw_reg, raw_number, raw_mask, raw}
-use Rattle.instructions.proofs.Checks.{no, unused_at, range_at}
+use Rattle.instructions.proofs.Checks.{unused_at, range_at}
 use Rattle.instructions.proofs.Constants.{number_width, Halved, quot, some}
 use Rattle.instructions.proofs.Forms.{reg_width, mask_width, Agrees}
 use Rattle.reading.specs.Fields.{reg_of, number_of, mask_of, fields_of}
@@ -76,7 +77,7 @@ number_back : (c : Option Number) (n : ℤ) → Workable c → Halved c → idle
 number_back None n w h i t = zero_int n i
 number_back (Some (Signed k u a)) n w h i t = signed_back k u a w.some h n t
 number_back (Some (Unsigned k u a)) (pos n) w h i t = ap pos (quot n u (let e : n % u ≡ 0 = grind (arith, nat_tests) in e))
-number_back (Some (Unsigned k u a)) (negsuc n) w h i t = no _ t
+number_back (Some (Unsigned k u a)) (negsuc n) w h i t = absurd (false≢true t)
 
 number_forth : (c : Option Number) (x : ℕ) → Workable c → Halved c → x < 2 ^ number_width c → raw_number c (number_of c x) ≡ x
 number_forth None x w h l = omega arith
@@ -88,9 +89,9 @@ number_forth (Some (Unsigned k u a)) x w h l = mul-div_cancel x w.some
 reg_back : (u : Option Use) (x : ℤ) → idle u x ≡ true → reg_ok u x ≡ true → reg_of u (raw_reg u x) ≡ x
 reg_back None x i t = zero_int x i
 reg_back (Some (Full c e)) (pos x) i t = refl
-reg_back (Some (Full c e)) (negsuc x) i t = no _ t
+reg_back (Some (Full c e)) (negsuc x) i t = absurd (false≢true t)
 reg_back (Some (Short c)) (pos x) i t = ap pos (let e : x - 8 + 8 ≡ x = grind (arith, nat_tests) in e)
-reg_back (Some (Short c)) (negsuc x) i t = no _ t
+reg_back (Some (Short c)) (negsuc x) i t = absurd (false≢true t)
 
 reg_forth : (u : Option Use) (x : ℕ) → x < 2 ^ reg_width u → raw_reg u (reg_of u x) ≡ x
 reg_forth None x h = omega arith
@@ -99,7 +100,7 @@ reg_forth (Some (Short c)) x h = omega arith
 
 one_back : (m : ℤ) → mask_ok (Some Free) m ≡ true → pos (1 - (1 - nat_abs m)) ≡ m
 one_back (pos m) t = ap pos (let e : 1 - (1 - m) ≡ m = grind (arith, nat_tests) in e)
-one_back (negsuc m) t = no _ t
+one_back (negsuc m) t = absurd (false≢true t)
 
 mask_back : (u : Option Masking) (m : ℤ) → idle u m ≡ true → mask_ok u m ≡ true → mask_of u (raw_mask u m) ≡ m
 mask_back None m i t = zero_int m i

@@ -1,6 +1,7 @@
 -- What the reader's steps come to.
 use Rattle.std.proofs.Common.{◌≡◌, ℕ, ◌^◌, ◌<◌, ◌≤◌, Bool, true, false, Decides, Some, None, Option, Ok, Err, Result, sym, refl, ap, ap₂, ◌∙◌, subst, lt_of_lt_of_le, arith, pow_mono}
 use lib.Bits.{bit_and}
+use Rattle.std.proofs.lemmas.Bool.{false≢true}
 use Rattle.std.specs.Bool.{then_some}
 use Rattle.std.specs.Result.{result_ok}
 use Rattle.bits.specs.declared.part.Field.TheVariants.{D, A, B, N, M}
@@ -40,10 +41,7 @@ values_one k u v w hu hv eu ev =
 -- fields that are kept where they have the codes
 pub values_kept : (r : Form) (w : ℕ) (v : Values) (b : Bool) (o : Option Values) → Fit (layout r.kind) v × (word (layout r.kind) v ≡ w) → Decides b (Coded r v) → o ≡ then_some b v → ValuesAs r w o
 values_kept r w v true o h d e = subst (ValuesAs r w) (sym e) (h.0, d.0 refl, h.1)
-values_kept r w v false o h d e = subst (ValuesAs r w) (sym e) (λ u f k q. not_coded (d.1 (subst (Coded r) (values_one r.kind u v w f h.0 q h.1) k)))
-  where
-    not_coded : false ≡ true → ⊥
-    not_coded t = let z : ◌≡◌ {A = ℕ} 0 1 = cc in omega arith
+values_kept r w v false o h d e = subst (ValuesAs r w) (sym e) (λ u f k q. false≢true (d.1 (subst (Coded r) (values_one r.kind u v w f h.0 q h.1) k)))
 
 -- ---- widths
 
@@ -93,7 +91,7 @@ pub read_word : (r : Form) (w : ℕ) (v : Values) → Agrees r → Fit (layout r
 read_word r w v a h c e = ap (word (layout r.kind)) (fields_forth r v a h c.opcode c.funct3 c.funct) ∙ e
 
 clash : (P : Type 0) (o : Option BuildFault) (b : BuildFault) → o ≡ Some b → o ≡ None → P
-clash P o b s n = absurd (let z : ◌≡◌ {A = ℕ} 0 1 = cc in omega arith)
+clash P o b s n = grind (arith, s, n)
 
 -- and are the only ones, so where they have a fault it is no word of the operation
 pub not_lawful : (r : Form) (w : ℕ) (v : Values) (b : BuildFault) → Agrees r → Fit (layout r.kind) v → word (layout r.kind) v ≡ w → fault r (fields_of r v) ≡ Some b → (f : Fields) → lawful r f ≡ true → word_of r f ≡ w → ⊥
@@ -111,8 +109,8 @@ read_checked r w o v f c e h g s = go c (fault (form_at o.place) f) refl s
         let p : ◌≡◌ {A = Operation × Fields} (i.op, i.fields) (o, f) = cc in
         ap (λ (p : Operation × Fields). word_of (form_at p.0.place) p.1) p ∙ ap (λ r. word_of r f) (sym e)
         ∙ ap (word_of r) g ∙ read_word r w v (subst Agrees (sym e) (form_agrees o.place o.real)) h.0 h.1 h.2
-    go (Ok i) (Some b) q s = absurd (let z : ◌≡◌ {A = ℕ} 0 1 = cc in omega arith)
-    go (Err d) None q s = absurd (let z : ◌≡◌ {A = ℕ} 0 1 = cc in omega arith)
+    go (Ok i) (Some b) q s = grind (arith, s)
+    go (Err d) None q s = grind (arith, s)
     go (Err d) (Some b) q s =
         record {
           none =

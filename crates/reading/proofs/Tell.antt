@@ -47,7 +47,7 @@ words_tell a b e =
 
 -- what is found among all operations is the instruction whose word it is
 pub found : (w : ℕ) (r : Option Instruction) → MatchOption r ((k : ℕ) → k < count → Unread k w) (λ i. the_word i ≡ w) → Reads w r
-found w None n i = (λ e. absurd (let z : ◌≡◌ {A = ℕ} 0 1 = cc in omega arith), λ e. absurd ((n i.op.place i.op.real).none i.fields i.ok e))
+found w None n i = (λ e. grind (arith, e), λ e. absurd ((n i.op.place i.op.real).none i.fields i.ok e))
 found w (Some j) h i = (λ e. let s : j ≡ i = cc in subst (λ i. the_word i ≡ w) s h, λ e. ap Some (words_tell j i (h ∙ sym e)))
 
 -- ---- lists
@@ -79,8 +79,8 @@ split w v xs ys false false p q e =
     (l, t)
 
 empty : (w : ℕ) (xs : List ℕ) (b : Bool) → [] ≡ halves (cond b 2 1) w ++ xs → ⊥
-empty w xs true e = let z : ◌≡◌ {A = ℕ} 0 1 = cc in omega arith
-empty w xs false e = let z : ◌≡◌ {A = ℕ} 0 1 = cc in omega arith
+empty w xs true e = grind (arith, e)
+empty w xs false e = grind (arith, e)
 
 pub halfwords_tell : HalfwordsTell
 halfwords_tell [] [] e = refl

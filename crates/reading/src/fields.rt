@@ -8,6 +8,7 @@ use instructions::fields::Fields;
 use instructions::form::KnownForm;
 use operations::row::{Masking, Number, Use};
 
+// Stays a function, as the two below: they are the way back of instructions' private `Slot::in_word`, and a trait over three uses, public for this one caller, would say the three contracts twice.
 fn reg_of(u: Option<Use>, x: u32) -> i64
     requires { x < 32 }
     ensures { result ≡ reg_of u x }
@@ -19,6 +20,7 @@ fn reg_of(u: Option<Use>, x: u32) -> i64
     }
 }
 
+// Takes the known form, since its unit is 1 to 16: the product fits.
 fn number_of(form: &KnownForm, x: u32) -> i64
     requires { Narrow form.now.form.n x }
     ensures { result ≡ number_of form.now.form.n x }

@@ -1,34 +1,32 @@
 // An instruction out of a store.
-ghost use Rattle.std.specs.Prelude.{◌≡◌, take};
+ghost use Rattle.std.specs.Prelude.{◌≡◌, ◌<◌, IfSome, take};
 ghost use Rattle.std.specs.List.{slice_get};
-ghost use Rattle.reading.specs.Reading.{Reads};
-ghost use Rattle.reading.specs.Places.{word_at, answered, ReadsAt};
+ghost use Rattle.reading.specs.Places.{word_at, ReadsAt};
 
 use crate::faults::ReadFault;
 use crate::word::read_word;
+use bits::halves::{has_second, join_halves};
 use instructions::instruction::Instruction;
 use store::store::Store;
 
 // The halfword at a place of the first `used`.
 fn half_within<S: Store>(store: &S, used: usize, place: usize) -> Option<u16>
-    ensures { result ≡ slice_get (take used (S.halfwords store.now)) place }
+    ensures half { result ≡ slice_get (take used (S.halfwords store.now)) place }
+    ensures inside { IfSome result (λ h. place < used) }
 {
-    if place < used { store.get(place) } else { None }
+    (place < used).then(|| store.get(place))?
 }
 
 // The word that begins at a place of the first `used` halfwords, whole: a second halfword belongs to it when the low two bits of the first are both 1.
 pub fn word_within<S: Store>(store: &S, used: usize, place: usize) -> Option<u32>
     ensures { result ≡ word_at (take used (S.halfwords store.now)) place }
 {
-    if place >= used {
-        return None;
-    }
     let low = half_within(store, used, place)?;
-    if low % 4 != 3 {
+    if !has_second(low) {
         return Some(u32::from(low));
     }
     let high = half_within(store, used, place + 1)?;
-    Some(u32::from(high) * 65536 + u32::from(low))
+    Some(join_halves(low, high))
 }
 
 // The word that begins at a place of a store.

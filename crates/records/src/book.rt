@@ -1,6 +1,8 @@
 // The book of a program: its labels, jumps and slots, each kind in the order in which they came. How many of them count is told by `Counts`.
-ghost use Rattle.std.specs.Prelude.{◌≡◌, ◌+◌, nat_le};
+ghost use Rattle.std.specs.Prelude.{◌≡◌, ◌+◌, nat_le, take};
 ghost use Rattle.records.specs.Records.{blank};
+
+use crate::counts::Counts;
 
 // A label and the place where it is bound.
 #[derive(Clone, Copy, Default)]
@@ -52,4 +54,32 @@ impl Book {
             slots: [SlotRecord::default(); 32],
         }
     }
+
+    // The labels that count.
+    pub fn labels(&self, counts: Counts) -> &[LabelRecord]
+        ensures { result.now ≡ take counts.labels self.now.labels }
+    {
+        first_of(&self.labels, counts.labels)
+    }
+
+    // The jumps that count, read when a program is sealed; no code calls it yet.
+    pub fn jumps(&self, counts: Counts) -> &[JumpRecord]
+        ensures { result.now ≡ take counts.jumps self.now.jumps }
+    {
+        first_of(&self.jumps, counts.jumps)
+    }
+
+    // The slots that count.
+    pub fn slots(&self, counts: Counts) -> &[SlotRecord]
+        ensures { result.now ≡ take counts.slots self.now.slots }
+    {
+        first_of(&self.slots, counts.slots)
+    }
+}
+
+// The first `count` records of a row, or all of them where there are fewer.
+fn first_of<T>(row: &[T], count: usize) -> &[T]
+    ensures { result.now ≡ take count row.now }
+{
+    row.get(..count).unwrap_or(row)
 }

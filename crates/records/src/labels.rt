@@ -1,24 +1,20 @@
 // Where labels are bound.
-ghost use Rattle.std.specs.Prelude.{◌≡◌, ◌==◌, take};
+ghost use Rattle.std.specs.Prelude.{◌≡◌, ◌==◌, map};
 ghost use Rattle.std.specs.List.{find};
-ghost use Rattle.records.specs.Records.{place_of, labels_among};
+ghost use Rattle.records.specs.Records.{place_of, label_of};
 
-use crate::book::{Book, LabelRecord};
+use crate::book::LabelRecord;
 
-// The first record of the label, among the first `count`.
-fn record_of(labels: &[LabelRecord], count: usize, label: usize) -> Option<LabelRecord>
-    ensures { result ≡ find (λ r. r.label == label) (take count labels.now) }
+// The first record of a label.
+fn record_of(labels: &[LabelRecord], label: usize) -> Option<LabelRecord>
+    ensures { result ≡ find (λ r. r.label == label) labels.now }
 {
-    labels
-        .iter()
-        .copied()
-        .take(count)
-        .find(|entry| entry.label == label)
+    labels.iter().copied().find(|entry| entry.label == label)
 }
 
-// Where a label is bound, among the first `count` labels of the book.
-pub fn place_of(book: &Book, count: usize, label: usize) -> Option<u32>
-    ensures { result ≡ place_of (labels_among count book.now) label }
+// Where a label is bound.
+pub fn place_of(labels: &[LabelRecord], label: usize) -> Option<u32>
+    ensures { result ≡ place_of (map label_of labels.now) label }
 {
-    record_of(&book.labels, count, label).map(|entry| entry.place)
+    record_of(labels, label).map(|entry| entry.place)
 }

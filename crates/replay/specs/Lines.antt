@@ -3,11 +3,11 @@ use Rattle.std.specs.Prelude.{ℕ, ◌-◌, Bool, false, List, [], ◌∷◌, le
 use Rattle.std.specs.Option.{option_map, unwrap_or}
 use Rattle.std.specs.Str.{bytes_eq}
 use Rattle.text.specs.Fields.{fields}
-use Rattle.text.specs.Written.{hex}
-use Rattle.replay.specs.declared.answer.Word.TheVariants.{Wide, Short}
+use Rattle.text.specs.Found.{found}
+use Rattle.text.specs.Words.{hex_of}
 use Rattle.replay.specs.declared.encoder.Encoder.{Encoder}
 use Rattle.replay.specs.declared.encoder.Encoder.TheVariants.{RType, IType, SType, Valu, ValuRrrr, ValuRrImm, ValuRrrImm, VmemLoad, VmemStore, CrType, Cr2Type, CaType, CjType, CiType, CiSpLoad, CAddi16sp, CiwType, CbType, CssType, CsType, ClType}
-use Rattle.replay.specs.Operands.{found, text_at}
+use Rattle.replay.specs.Operands.{text_at}
 use Rattle.replay.specs.Names.{named_at}
 use Rattle.replay.specs.Words.{Answer, r_type, i_type, s_type, valu, valu_imm, vmem, cr_type, cr2_type, ca_type, cj_type, ci_type, ci_sp_load, c_addi16sp, ciw_type, cb_type, css_type, cs_type, cl_type}
 
@@ -66,8 +66,7 @@ answer_of t = found (named_at t 0 encoders) (λ e. answer_by e t)
 
 -- a word as hexadecimal digits, and a refusal as the Rust's
 abbrev pub written : Answer → List ℕ
-written (Ok (Wide w)) = hex 8 w
-written (Ok (Short w)) = hex 4 w
+written (Ok w) = hex_of w
 written (Err e) = codes "panic"
 
 -- the last field is the answer

@@ -2,14 +2,10 @@
 use Rattle.std.specs.Prelude.{ℕ, ◌-◌, ◌^◌, cond, List, ℤ, pos, negsuc, Some, None, Option, ◌==◌, nat_le, nat_lt}
 use Rattle.std.specs.Option.{option_map}
 use Rattle.text.specs.Fields.{Part, field_of, text_of}
+use Rattle.text.specs.Found.{found}
 use Rattle.text.specs.Numbers.{value_of}
 use Rattle.operands.specs.declared.masking.VecOpMasking.{VecOpMasking}
 use Rattle.operands.specs.declared.masking.VecOpMasking.TheVariants.{Enabled, Disabled}
-
--- what is found, and then what follows from it
-abbrev pub found : {A B : Type 0} → Option A → (A → Option B) → Option B
-found None k = None
-found (Some x) k = k x
 
 -- the text of a field
 abbrev pub text_at : List ℕ → ℕ → Option (List ℕ)

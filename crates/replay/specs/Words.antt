@@ -1,5 +1,6 @@
 -- What the encoders answer to the operands of a line, each in the order of its arguments.
 use Rattle.std.specs.Prelude.{ℕ, List, [], ◌∷◌, Some, Ok, Err, Option, Result}
+use Rattle.text.specs.Found.{found}
 use Rattle.bits.specs.Layout.{word}
 use Rattle.bits.specs.Twos.{twos}
 use Rattle.operands.specs.Masks.{mask_bit}
@@ -10,9 +11,9 @@ use Rattle.formats.specs.Lawful.{check, first_wide}
 use Rattle.args.specs.Codes.{space, width_code, CrOp-op, CrOp-funct4, CaOp-op, CaOp-funct2, CaOp-funct6, CjOp-op, CjOp-funct3, CiOp-op, CiOp-funct3, CiwOp-op, CiwOp-funct3, CbOp-op, CbOp-funct3, CbOp-funct2, CssOp-op, CssOp-funct3, CsOp-op, CsOp-funct3, ClOp-op, ClOp-funct3}
 use Rattle.encoders.specs.declared.faults.EncodeFault.{EncodeFault}
 use Rattle.encoders.specs.Encodings.{answered, fields, unit_stride, jumped, sp_load, loaded, sp_store, store_kind, load_kind}
-use Rattle.replay.specs.declared.answer.Word.{Word}
-use Rattle.replay.specs.declared.answer.Word.TheVariants.{Wide, Short}
-use Rattle.replay.specs.Operands.{found, natural_at, integer_at, code_at, reg_at, short_at, masking_at}
+use Rattle.text.specs.declared.words.Word.{Word}
+use Rattle.text.specs.declared.words.Word.TheVariants.{Wide, Short}
+use Rattle.replay.specs.Operands.{natural_at, integer_at, code_at, reg_at, short_at, masking_at}
 use Rattle.replay.specs.Names.{named_at, form_at, cr_ops, ca_ops, cj_ops, ci_ops, ciw_ops, cb_ops, css_ops, cs_ops, cl_ops, widths}
 
 -- a word, or why there is none

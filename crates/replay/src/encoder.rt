@@ -66,7 +66,7 @@ impl Encoder {
     pub fn answer(self, line: &[u8]) -> Option<Answer>
         ensures { result ≡ answer_by self line.now }
     {
-        // Stays: one arm an encoder, since a table of functions would say the same and name each twice.
+        // Stays: one arm an encoder, since a table would hand out function pointers, which the gate refuses.
         match self {
             Encoder::RType => wide_words::r(line),
             Encoder::IType => wide_words::i(line),

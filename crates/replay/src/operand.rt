@@ -32,6 +32,7 @@ pub fn operand_at<T: Operand>(line: &[u8], k: usize) -> Option<T>
 }
 
 // A plain field.
+// Stays apart from that of `u8`: an impl for every type of numbers would overlap the impl for values that have names.
 impl Operand for u32 {
     ghost Meaning = { ℕ };
 
@@ -101,8 +102,7 @@ impl<const WIDTH: u32> Operand for Unsigned<WIDTH> {
     ghost read = { counted (natural (min (2 ^ 32) (2 ^ WIDTH))) };
 
     fn of(field: Field<'_>) -> Option<Unsigned<WIDTH>> {
-        let number = u32::try_from(field.value()?).ok()?;
-        Unsigned::try_from(number).ok()
+        Unsigned::try_from(u32::of(field)?).ok()
     }
 }
 

@@ -1,5 +1,6 @@
 // The encoders of 32 bits, each on the operands of a line.
-// Stay two: the vector load and store each run the encoder of their name. A function over both would state again what each answers.
+// Stay two: the vector load and store each run the encoder of their name. Tried as one function over the encoder: it is longer,
+// since its contract has to say for any eight arguments what the encoder answers.
 ghost use Rattle.std.specs.Prelude.{◌≡◌};
 ghost use Rattle.replay.specs.Words.{r_type, i_type, s_type, valu as valu-of, valu_imm, vmem};
 

@@ -324,9 +324,7 @@ mod tests {
     #[test]
     fn long_input(rt: HostRuntime) -> Result<(), Fail> {
         let mut input = String::from_str(rt.alloc(), "op,d,a,b,n,m\n")?;
-        for _i in 0..4082 {
-            input.push_str("a")?;
-        }
+        input.push_str("a".repeat(rt.alloc(), 4082)?.as_str())?;
         input.push_str("\n")?;
         assert_eq!(rt; input.len(), 4096);
         answered(

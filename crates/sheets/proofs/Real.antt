@@ -14,7 +14,8 @@ use Rattle.lines.specs.declared.columns.Columns.{Columns}
 use Rattle.lines.specs.declared.faults.LineFault.{LineFault}
 use Rattle.lines.specs.declared.faults.LineFault.TheVariants.{FieldCount, UnknownOperation, NoNumber}
 use Rattle.lines.specs.declared.faults.SheetFault.{SheetFault}
-use Rattle.lines.specs.Names.{found, named_columns}
+use Rattle.text.specs.Found.{found}
+use Rattle.lines.specs.Names.{named_columns}
 use Rattle.lines.specs.Lines.{operation_at, number_at, there, lined}
 use Rattle.sheets.specs.Listing.{Listing, halfs, taken, with_line, at_line, listed_from, by_columns, listed}
 
@@ -24,7 +25,7 @@ EachReal [] = Unit {0}
 EachReal (x ∷ xs) = (x.0 < count) × EachReal xs
 
 further_lt : (o : Option ℕ) (m k : ℕ) → ((j : ℕ) → o ≡ Some j → j < m) → further 1 o ≡ Some k → k < suc m
-further_lt None m k h e = absurd (let z : ◌≡◌ {A = ℕ} 0 1 = cc in omega arith)
+further_lt None m k h e = grind (arith, e)
 further_lt (Some i) m k h e = let q : i + 1 ≡ k = cc in let l = h i refl in omega arith
 
 headed_lt : (b : Bool) (o : Option ℕ) (m k : ℕ) → ((j : ℕ) → o ≡ Some j → j < m) → cond b (Some 0) (further 1 o) ≡ Some k → k < suc m
@@ -32,16 +33,16 @@ headed_lt true o m k h e = let z : 0 ≡ k = cc in omega arith
 headed_lt false o m k h e = further_lt o m k h e
 
 named_lt : (es : List Entry) (s : List ℕ) (k : ℕ) → named es s ≡ Some k → k < length es
-named_lt [] s k e = absurd (let z : ◌≡◌ {A = ℕ} 0 1 = cc in omega arith)
+named_lt [] s k e = grind (arith, e)
 named_lt (x ∷ es) s k e = headed_lt (bytes_eq x.name s) (named es s) (length es) k (named_lt es s) e
 
 -- what holds of what is there holds of the answer
 there_ok : {A B : Type 0} (P : B → Type 0) (f : LineFault) (o : Option A) (k : A → Result B LineFault) (x : B) → there f o k ≡ Ok x → ((a : A) → o ≡ Some a → k a ≡ Ok x → P x) → P x
-there_ok P f None k x e h = absurd (let z : ◌≡◌ {A = ℕ} 0 1 = cc in omega arith)
+there_ok P f None k x e h = grind (arith, e)
 there_ok P f (Some a) k x e h = h a refl e
 
 found_some : {A B : Type 0} (P : B → Type 0) (o : Option A) (k : A → Option B) (x : B) → found o k ≡ Some x → ((a : A) → k a ≡ Some x → P x) → P x
-found_some P None k x e h = absurd (let z : ◌≡◌ {A = ℕ} 0 1 = cc in omega arith)
+found_some P None k x e h = grind (arith, e)
 found_some P (Some a) k x e h = h a e
 
 abbrev Real : ℕ × Fields → Type 0
@@ -76,7 +77,7 @@ lined_real c t x e = go (eqb (length (fields t)) 6) e
         there_ok Real (NoNumber N) (number_at t c.n) _ x q3 (λ n _ q4.
         there_ok Real (NoNumber M) (number_at t c.m) _ x q4 (λ m _ q5.
         subst (λ (k : ℕ). k < count) (ok_first o (record { d = d; a = a; b = b; n = n; m = m }) x q5) (operation_lt t c.op o h)))))))
-    go false e = absurd (let z : ◌≡◌ {A = ℕ} 0 1 = cc in omega arith)
+    go false e = grind (arith, e)
 
 pub each_append : (a b : Listing) → EachReal a → EachReal b → EachReal (a ++ b)
 each_append [] b p q = q
@@ -84,29 +85,29 @@ each_append (x ∷ a) b p q = (p.0, each_append a b p.1 q)
 
 taken_is : (r : Result (Unit {0}) EmitFault) (a b : Listing) → taken r a ≡ Ok b → a ≡ b
 taken_is (Ok u) a b e = cc
-taken_is (Err d) a b e = absurd (let z : ◌≡◌ {A = ℕ} 0 1 = cc in omega arith)
+taken_is (Err d) a b e = grind (arith, e)
 
 with_real : (room : ℕ) (before after : Listing) (q : Result (ℕ × Fields) LineFault) → ((x : ℕ × Fields) → q ≡ Ok x → Real x) → EachReal before → with_line room before q ≡ Ok after → EachReal after
 with_real room before after (Ok x) h r e =
     subst EachReal (taken_is (built_emitted room (length (halfs before)) x.0 x.1) (before ++ (x ∷ [])) after e) (each_append before (x ∷ []) r (h x refl, tt))
-with_real room before after (Err f) h r e = absurd (let z : ◌≡◌ {A = ℕ} 0 1 = cc in omega arith)
+with_real room before after (Err f) h r e = grind (arith, e)
 
 at_ok : (P : Type 0) (n : ℕ) (r : Result Listing LineFault) (k : Listing → Result Listing SheetFault) (x : Listing) → at_line n r k ≡ Ok x → ((y : Listing) → r ≡ Ok y → k y ≡ Ok x → P) → P
 at_ok P n (Ok y) k x e h = h y refl e
-at_ok P n (Err f) k x e h = absurd (let z : ◌≡◌ {A = ℕ} 0 1 = cc in omega arith)
+at_ok P n (Err f) k x e h = grind (arith, e)
 
 from_real : (room : ℕ) (c : Columns) (n : ℕ) (before after : Listing) (ls : List Line) → EachReal before → listed_from room c n before ls ≡ Ok after → EachReal after
 from_real room c n before after [] r e = let q : before ≡ after = cc in subst EachReal q r
-from_real room c n before after (unended t ∷ ls) r e = absurd (let z : ◌≡◌ {A = ℕ} 0 1 = cc in omega arith)
+from_real room c n before after (unended t ∷ ls) r e = grind (arith, e)
 from_real room c n before after (ended t ∷ ls) r e =
     at_ok (EachReal after) n (with_line room before (lined c t)) (λ next. listed_from room c (suc n) next ls) after e
     (λ y p q. from_real room c (suc n) y after ls (with_real room before y (lined c t) (lined_real c t) r p) q)
 
 by_real : (room : ℕ) (o : Option Columns) (after : Listing) (ls : List Line) → by_columns room o ls ≡ Ok after → EachReal after
-by_real room None after ls e = absurd (let z : ◌≡◌ {A = ℕ} 0 1 = cc in omega arith)
+by_real room None after ls e = grind (arith, e)
 by_real room (Some c) after ls e = from_real room c 2 [] after ls tt e
 
 pub listed_real : (room : ℕ) (after : Listing) (ls : List Line) → listed room ls ≡ Ok after → EachReal after
-listed_real room after [] e = absurd (let z : ◌≡◌ {A = ℕ} 0 1 = cc in omega arith)
-listed_real room after (unended t ∷ ls) e = absurd (let z : ◌≡◌ {A = ℕ} 0 1 = cc in omega arith)
+listed_real room after [] e = grind (arith, e)
+listed_real room after (unended t ∷ ls) e = grind (arith, e)
 listed_real room after (ended t ∷ ls) e = by_real room (named_columns t) after ls e

@@ -1,5 +1,5 @@
 -- The laws of each format.
-use Rattle.std.proofs.Common.{◌≡◌, ℕ, true, None, refl, ap, lit<}
+use Rattle.std.proofs.Common.{◌≡◌, ℕ, None, refl, ap, lit<}
 use Rattle.bits.specs.declared.part.Values.{Values}
 use Rattle.bits.specs.declared.part.Field.TheVariants.{D, A, B, N, M, Opcode, Funct3, Funct}
 use Rattle.bits.specs.Layout.{Fit}
@@ -8,7 +8,7 @@ use Rattle.formats.specs.declared.kind.Kind.TheVariants as kind
 use Rattle.formats.specs.Layouts.{layout}
 use Rattle.formats.proofs.Codes.{narrow, none_wide, none_there}
 use Rattle.formats.proofs.Sound.{fit_of}
-use Rattle.formats.proofs.Made.{made, same_values}
+use Rattle.formats.proofs.Made.{same_values}
 use Rattle.short.specs.declared.operands_of.CaOperands.{CaOperands}
 use Rattle.short.specs.declared.operands_of.CbOperands.{CbOperands}
 use Rattle.short.specs.declared.operands_of.CiOperands.{CiOperands}
@@ -25,9 +25,6 @@ Ca-fits o e =
     let c = narrow (Ca-codes o) e in
     fit_of (layout kind.Ca) (Ca-values o) o.rd.ok (lit< tt) o.rs2.ok (lit< tt) (lit< tt) c.0 c.1.0 c.1.1.0
 
-pub Ca-lawful : (o : CaOperands) → Fit (layout kind.Ca) (Ca-values o) → Ca-fault o ≡ None
-Ca-lawful o f = none_wide (Ca-codes o) (f Opcode, (f Funct3, (f Funct, tt)))
-
 pub Ca-known : (o p : CaOperands) → Ca-values o ≡ Ca-values p → o ≡ p
 Ca-known o p e =
     let at : (f : Values → ℕ) → f (Ca-values o) ≡ f (Ca-values p) = λ f. ap f e in
@@ -39,10 +36,11 @@ Ca-known o p e =
       funct6 = at (λ v. v.funct) i;
     }
 
-pub Ca-held : (v : Values) → Fit (layout kind.Ca) v → true ≡ true → (o : CaOperands) × ((Ca-fault o ≡ None) × (Ca-values o ≡ v))
-Ca-held v h t =
+pub Ca-held : (v : Values) → Fit (layout kind.Ca) v → (o : CaOperands) × ((Ca-fault o ≡ None) × (Ca-values o ≡ v))
+Ca-held v h =
     let o : CaOperands = record { opcode = v.opcode; rs2 = record { value = v.b; ok = h B }; funct2 = v.funct3; rd = record { value = v.d; ok = h D }; funct6 = v.funct } in
-    (o, made Ca-fault Ca-values (layout kind.Ca) Ca-lawful v h o (same_values refl (none_there v.a (h A)) refl (none_there v.n (h N)) (none_there v.m (h M)) refl refl refl))
+    let lawful = none_wide (Ca-codes o) (h Opcode, (h Funct3, (h Funct, tt))) in
+    (o, (lawful, same_values refl (none_there v.a (h A)) refl (none_there v.n (h N)) (none_there v.m (h M)) refl refl refl))
 
 -- ---- Cb
 
@@ -50,9 +48,6 @@ pub Cb-fits : (o : CbOperands) → Cb-fault o ≡ None → Fit (layout kind.Cb) 
 Cb-fits o e =
     let c = narrow (Cb-codes o) e in
     fit_of (layout kind.Cb) (Cb-values o) o.rd.ok (lit< tt) (lit< tt) (signed_lt o.imm) (lit< tt) c.0 c.1.1.0 c.1.0
-
-pub Cb-lawful : (o : CbOperands) → Fit (layout kind.Cb) (Cb-values o) → Cb-fault o ≡ None
-Cb-lawful o f = none_wide (Cb-codes o) (f Opcode, (f Funct, (f Funct3, tt)))
 
 pub Cb-known : (o p : CbOperands) → Cb-values o ≡ Cb-values p → o ≡ p
 Cb-known o p e =
@@ -65,10 +60,11 @@ Cb-known o p e =
       funct3 = at (λ v. v.funct3) i;
     }
 
-pub Cb-held : (v : Values) → Fit (layout kind.Cb) v → true ≡ true → (o : CbOperands) × ((Cb-fault o ≡ None) × (Cb-values o ≡ v))
-Cb-held v h t =
+pub Cb-held : (v : Values) → Fit (layout kind.Cb) v → (o : CbOperands) × ((Cb-fault o ≡ None) × (Cb-values o ≡ v))
+Cb-held v h =
     let o : CbOperands = record { opcode = v.opcode; imm = signed_of 6 v.n (h N); rd = record { value = v.d; ok = h D }; funct2 = v.funct; funct3 = v.funct3 } in
-    (o, made Cb-fault Cb-values (layout kind.Cb) Cb-lawful v h o (same_values refl (none_there v.a (h A)) (none_there v.b (h B)) (signed_of_bits 6 v.n (h N)) (none_there v.m (h M)) refl refl refl))
+    let lawful = none_wide (Cb-codes o) (h Opcode, (h Funct, (h Funct3, tt))) in
+    (o, (lawful, same_values refl (none_there v.a (h A)) (none_there v.b (h B)) (signed_of_bits 6 v.n (h N)) (none_there v.m (h M)) refl refl refl))
 
 -- ---- Ci
 
@@ -76,9 +72,6 @@ pub Ci-fits : (o : CiOperands) → Ci-fault o ≡ None → Fit (layout kind.Ci) 
 Ci-fits o e =
     let c = narrow (Ci-codes o) e in
     fit_of (layout kind.Ci) (Ci-values o) o.rd.ok (lit< tt) (lit< tt) (signed_lt o.imm) (lit< tt) c.0 c.1.0 (lit< tt)
-
-pub Ci-lawful : (o : CiOperands) → Fit (layout kind.Ci) (Ci-values o) → Ci-fault o ≡ None
-Ci-lawful o f = none_wide (Ci-codes o) (f Opcode, (f Funct3, tt))
 
 pub Ci-known : (o p : CiOperands) → Ci-values o ≡ Ci-values p → o ≡ p
 Ci-known o p e =
@@ -90,10 +83,11 @@ Ci-known o p e =
       funct3 = at (λ v. v.funct3) i;
     }
 
-pub Ci-held : (v : Values) → Fit (layout kind.Ci) v → true ≡ true → (o : CiOperands) × ((Ci-fault o ≡ None) × (Ci-values o ≡ v))
-Ci-held v h t =
+pub Ci-held : (v : Values) → Fit (layout kind.Ci) v → (o : CiOperands) × ((Ci-fault o ≡ None) × (Ci-values o ≡ v))
+Ci-held v h =
     let o : CiOperands = record { opcode = v.opcode; imm = signed_of 6 v.n (h N); rd = record { value = v.d; ok = h D }; funct3 = v.funct3 } in
-    (o, made Ci-fault Ci-values (layout kind.Ci) Ci-lawful v h o (same_values refl (none_there v.a (h A)) (none_there v.b (h B)) (signed_of_bits 6 v.n (h N)) (none_there v.m (h M)) refl refl (none_there v.funct (h Funct))))
+    let lawful = none_wide (Ci-codes o) (h Opcode, (h Funct3, tt)) in
+    (o, (lawful, same_values refl (none_there v.a (h A)) (none_there v.b (h B)) (signed_of_bits 6 v.n (h N)) (none_there v.m (h M)) refl refl (none_there v.funct (h Funct))))
 
 -- ---- Ciw
 
@@ -101,9 +95,6 @@ pub Ciw-fits : (o : CiwOperands) → Ciw-fault o ≡ None → Fit (layout kind.C
 Ciw-fits o e =
     let c = narrow (Ciw-codes o) e in
     fit_of (layout kind.Ciw) (Ciw-values o) o.rd.ok (lit< tt) (lit< tt) o.imm.ok (lit< tt) c.0 c.1.0 (lit< tt)
-
-pub Ciw-lawful : (o : CiwOperands) → Fit (layout kind.Ciw) (Ciw-values o) → Ciw-fault o ≡ None
-Ciw-lawful o f = none_wide (Ciw-codes o) (f Opcode, (f Funct3, tt))
 
 pub Ciw-known : (o p : CiwOperands) → Ciw-values o ≡ Ciw-values p → o ≡ p
 Ciw-known o p e =
@@ -115,10 +106,11 @@ Ciw-known o p e =
       funct3 = at (λ v. v.funct3) i;
     }
 
-pub Ciw-held : (v : Values) → Fit (layout kind.Ciw) v → true ≡ true → (o : CiwOperands) × ((Ciw-fault o ≡ None) × (Ciw-values o ≡ v))
-Ciw-held v h t =
+pub Ciw-held : (v : Values) → Fit (layout kind.Ciw) v → (o : CiwOperands) × ((Ciw-fault o ≡ None) × (Ciw-values o ≡ v))
+Ciw-held v h =
     let o : CiwOperands = record { opcode = v.opcode; rd = record { value = v.d; ok = h D }; imm = record { value = v.n; ok = h N }; funct3 = v.funct3 } in
-    (o, made Ciw-fault Ciw-values (layout kind.Ciw) Ciw-lawful v h o (same_values refl (none_there v.a (h A)) (none_there v.b (h B)) refl (none_there v.m (h M)) refl refl (none_there v.funct (h Funct))))
+    let lawful = none_wide (Ciw-codes o) (h Opcode, (h Funct3, tt)) in
+    (o, (lawful, same_values refl (none_there v.a (h A)) (none_there v.b (h B)) refl (none_there v.m (h M)) refl refl (none_there v.funct (h Funct))))
 
 -- ---- Cr
 
@@ -126,9 +118,6 @@ pub Cr-fits : (o : CrOperands) → Cr-fault o ≡ None → Fit (layout kind.Cr) 
 Cr-fits o e =
     let c = narrow (Cr-codes o) e in
     fit_of (layout kind.Cr) (Cr-values o) o.rd.ok (lit< tt) o.rs2.ok (lit< tt) (lit< tt) c.0 (lit< tt) c.1.0
-
-pub Cr-lawful : (o : CrOperands) → Fit (layout kind.Cr) (Cr-values o) → Cr-fault o ≡ None
-Cr-lawful o f = none_wide (Cr-codes o) (f Opcode, (f Funct, tt))
 
 pub Cr-known : (o p : CrOperands) → Cr-values o ≡ Cr-values p → o ≡ p
 Cr-known o p e =
@@ -140,10 +129,11 @@ Cr-known o p e =
       funct4 = at (λ v. v.funct) i;
     }
 
-pub Cr-held : (v : Values) → Fit (layout kind.Cr) v → true ≡ true → (o : CrOperands) × ((Cr-fault o ≡ None) × (Cr-values o ≡ v))
-Cr-held v h t =
+pub Cr-held : (v : Values) → Fit (layout kind.Cr) v → (o : CrOperands) × ((Cr-fault o ≡ None) × (Cr-values o ≡ v))
+Cr-held v h =
     let o : CrOperands = record { opcode = v.opcode; rs2 = record { value = v.b; ok = h B }; rd = record { value = v.d; ok = h D }; funct4 = v.funct } in
-    (o, made Cr-fault Cr-values (layout kind.Cr) Cr-lawful v h o (same_values refl (none_there v.a (h A)) refl (none_there v.n (h N)) (none_there v.m (h M)) refl (none_there v.funct3 (h Funct3)) refl))
+    let lawful = none_wide (Cr-codes o) (h Opcode, (h Funct, tt)) in
+    (o, (lawful, same_values refl (none_there v.a (h A)) refl (none_there v.n (h N)) (none_there v.m (h M)) refl (none_there v.funct3 (h Funct3)) refl))
 
 -- ---- Cr2
 
@@ -151,9 +141,6 @@ pub Cr2-fits : (o : Cr2Operands) → Cr2-fault o ≡ None → Fit (layout kind.C
 Cr2-fits o e =
     let c = narrow (Cr2-codes o) e in
     fit_of (layout kind.Cr2) (Cr2-values o) (lit< tt) o.rs1.ok (lit< tt) (lit< tt) (lit< tt) c.0 (lit< tt) c.1.0
-
-pub Cr2-lawful : (o : Cr2Operands) → Fit (layout kind.Cr2) (Cr2-values o) → Cr2-fault o ≡ None
-Cr2-lawful o f = none_wide (Cr2-codes o) (f Opcode, (f Funct, tt))
 
 pub Cr2-known : (o p : Cr2Operands) → Cr2-values o ≡ Cr2-values p → o ≡ p
 Cr2-known o p e =
@@ -164,10 +151,11 @@ Cr2-known o p e =
       funct4 = at (λ v. v.funct) i;
     }
 
-pub Cr2-held : (v : Values) → Fit (layout kind.Cr2) v → true ≡ true → (o : Cr2Operands) × ((Cr2-fault o ≡ None) × (Cr2-values o ≡ v))
-Cr2-held v h t =
+pub Cr2-held : (v : Values) → Fit (layout kind.Cr2) v → (o : Cr2Operands) × ((Cr2-fault o ≡ None) × (Cr2-values o ≡ v))
+Cr2-held v h =
     let o : Cr2Operands = record { opcode = v.opcode; rs1 = record { value = v.a; ok = h A }; funct4 = v.funct } in
-    (o, made Cr2-fault Cr2-values (layout kind.Cr2) Cr2-lawful v h o (same_values (none_there v.d (h D)) refl (none_there v.b (h B)) (none_there v.n (h N)) (none_there v.m (h M)) refl (none_there v.funct3 (h Funct3)) refl))
+    let lawful = none_wide (Cr2-codes o) (h Opcode, (h Funct, tt)) in
+    (o, (lawful, same_values (none_there v.d (h D)) refl (none_there v.b (h B)) (none_there v.n (h N)) (none_there v.m (h M)) refl (none_there v.funct3 (h Funct3)) refl))
 
 -- ---- CrBare
 
@@ -175,9 +163,6 @@ pub CrBare-fits : (o : CrBareOperands) → CrBare-fault o ≡ None → Fit (layo
 CrBare-fits o e =
     let c = narrow (CrBare-codes o) e in
     fit_of (layout kind.CrBare) (CrBare-values o) (lit< tt) (lit< tt) (lit< tt) (lit< tt) (lit< tt) c.0 (lit< tt) c.1.0
-
-pub CrBare-lawful : (o : CrBareOperands) → Fit (layout kind.CrBare) (CrBare-values o) → CrBare-fault o ≡ None
-CrBare-lawful o f = none_wide (CrBare-codes o) (f Opcode, (f Funct, tt))
 
 pub CrBare-known : (o p : CrBareOperands) → CrBare-values o ≡ CrBare-values p → o ≡ p
 CrBare-known o p e =
@@ -187,7 +172,8 @@ CrBare-known o p e =
       funct4 = at (λ v. v.funct) i;
     }
 
-pub CrBare-held : (v : Values) → Fit (layout kind.CrBare) v → true ≡ true → (o : CrBareOperands) × ((CrBare-fault o ≡ None) × (CrBare-values o ≡ v))
-CrBare-held v h t =
+pub CrBare-held : (v : Values) → Fit (layout kind.CrBare) v → (o : CrBareOperands) × ((CrBare-fault o ≡ None) × (CrBare-values o ≡ v))
+CrBare-held v h =
     let o : CrBareOperands = record { opcode = v.opcode; funct4 = v.funct } in
-    (o, made CrBare-fault CrBare-values (layout kind.CrBare) CrBare-lawful v h o (same_values (none_there v.d (h D)) (none_there v.a (h A)) (none_there v.b (h B)) (none_there v.n (h N)) (none_there v.m (h M)) refl (none_there v.funct3 (h Funct3)) refl))
+    let lawful = none_wide (CrBare-codes o) (h Opcode, (h Funct, tt)) in
+    (o, (lawful, same_values (none_there v.d (h D)) (none_there v.a (h A)) (none_there v.b (h B)) (none_there v.n (h N)) (none_there v.m (h M)) refl (none_there v.funct3 (h Funct3)) refl))

@@ -1,9 +1,7 @@
 // bit 0 up: opcode 0-1 | rs2 2-4 | funct2 5-6 | rd 7-9 | funct6 10-15
-ghost use Rattle.std.specs.Prelude.{true};
 ghost use Rattle.formats.specs.declared.kind.Kind.TheVariants.{Ca as Ca-kind};
 ghost use Rattle.short.specs.Operands.{Ca-values, Ca-fault};
 ghost use Rattle.short.specs.Laws.{Ca-fits, Ca-known, Ca-held};
-ghost use Rattle.std.proofs.Common.{rules};
 
 use crate::operands_of::CaOperands;
 use bits::layout::Layout;
@@ -31,13 +29,9 @@ impl Format for Ca {
 
     ghost fault = { Ca-fault };
 
-    ghost allows = { λ v. true };
-
     ghost fits = { Ca-fits };
 
     ghost known = { Ca-known };
-
-    ghost allowed = { Prim.search rules };
 
     ghost held = { Ca-held };
 
@@ -64,13 +58,13 @@ impl Format for Ca {
         }
     }
 
-    fn make(v: &Values) -> Option<CaOperands> {
-        Some(CaOperands {
+    fn make(v: &Values) -> CaOperands {
+        CaOperands {
             opcode: v.opcode,
             rs2: ShortNum::of_bits(v.b),
             funct2: v.funct3,
             rd: ShortNum::of_bits(v.d),
             funct6: v.funct,
-        })
+        }
     }
 }

@@ -1,9 +1,7 @@
 // bit 0 up: opcode 0-1 | imm[4:0] 2-6 | rd 7-9 | funct2 10-11 | imm[5] 12 | funct3 13-15
-ghost use Rattle.std.specs.Prelude.{true};
 ghost use Rattle.formats.specs.declared.kind.Kind.TheVariants.{Cb as Cb-kind};
 ghost use Rattle.short.specs.Operands.{Cb-values, Cb-fault};
 ghost use Rattle.short.specs.Laws.{Cb-fits, Cb-known, Cb-held};
-ghost use Rattle.std.proofs.Common.{rules};
 
 use crate::operands_of::CbOperands;
 use bits::layout::Layout;
@@ -33,13 +31,9 @@ impl Format for Cb {
 
     ghost fault = { Cb-fault };
 
-    ghost allows = { λ v. true };
-
     ghost fits = { Cb-fits };
 
     ghost known = { Cb-known };
-
-    ghost allowed = { Prim.search rules };
 
     ghost held = { Cb-held };
 
@@ -66,13 +60,13 @@ impl Format for Cb {
         }
     }
 
-    fn make(v: &Values) -> Option<CbOperands> {
-        Some(CbOperands {
+    fn make(v: &Values) -> CbOperands {
+        CbOperands {
             opcode: v.opcode,
             imm: Imm6::of_bits(v.n),
             rd: ShortNum::of_bits(v.d),
             funct2: v.funct,
             funct3: v.funct3,
-        })
+        }
     }
 }

@@ -1,9 +1,7 @@
 // bit 0 up: opcode 0-1 | imm[4:0] 2-6 | rd 7-11 | imm[5] 12 | funct3 13-15
-ghost use Rattle.std.specs.Prelude.{true};
 ghost use Rattle.formats.specs.declared.kind.Kind.TheVariants.{Ci as Ci-kind};
 ghost use Rattle.short.specs.Operands.{Ci-values, Ci-fault};
 ghost use Rattle.short.specs.Laws.{Ci-fits, Ci-known, Ci-held};
-ghost use Rattle.std.proofs.Common.{rules};
 
 use crate::operands_of::CiOperands;
 use bits::layout::Layout;
@@ -32,13 +30,9 @@ impl Format for Ci {
 
     ghost fault = { Ci-fault };
 
-    ghost allows = { λ v. true };
-
     ghost fits = { Ci-fits };
 
     ghost known = { Ci-known };
-
-    ghost allowed = { Prim.search rules };
 
     ghost held = { Ci-held };
 
@@ -64,12 +58,12 @@ impl Format for Ci {
         }
     }
 
-    fn make(v: &Values) -> Option<CiOperands> {
-        Some(CiOperands {
+    fn make(v: &Values) -> CiOperands {
+        CiOperands {
             opcode: v.opcode,
             imm: Imm6::of_bits(v.n),
             rd: RegNum::of_bits(v.d),
             funct3: v.funct3,
-        })
+        }
     }
 }

@@ -1,9 +1,7 @@
 // bit 0 up: opcode 0-1 | rd 2-4 | imm[3] 5 | imm[2] 6 | imm[9:6] 7-10 | imm[5:4] 11-12 | funct3 13-15
-ghost use Rattle.std.specs.Prelude.{true};
 ghost use Rattle.formats.specs.declared.kind.Kind.TheVariants.{Ciw as Ciw-kind};
 ghost use Rattle.short.specs.Operands.{Ciw-values, Ciw-fault};
 ghost use Rattle.short.specs.Laws.{Ciw-fits, Ciw-known, Ciw-held};
-ghost use Rattle.std.proofs.Common.{rules};
 
 use crate::operands_of::CiwOperands;
 use bits::layout::Layout;
@@ -34,13 +32,9 @@ impl Format for Ciw {
 
     ghost fault = { Ciw-fault };
 
-    ghost allows = { λ v. true };
-
     ghost fits = { Ciw-fits };
 
     ghost known = { Ciw-known };
-
-    ghost allowed = { Prim.search rules };
 
     ghost held = { Ciw-held };
 
@@ -66,12 +60,12 @@ impl Format for Ciw {
         }
     }
 
-    fn make(v: &Values) -> Option<CiwOperands> {
-        Some(CiwOperands {
+    fn make(v: &Values) -> CiwOperands {
+        CiwOperands {
             opcode: v.opcode,
             rd: ShortNum::of_bits(v.d),
             imm: Uimm8::of_bits(v.n),
             funct3: v.funct3,
-        })
+        }
     }
 }

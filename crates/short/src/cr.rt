@@ -1,9 +1,7 @@
 // bit 0 up: opcode 0-1 | rs2 2-6 | rd 7-11 | funct4 12-15
-ghost use Rattle.std.specs.Prelude.{true};
 ghost use Rattle.formats.specs.declared.kind.Kind.TheVariants.{Cr as Cr-kind};
 ghost use Rattle.short.specs.Operands.{Cr-values, Cr-fault};
 ghost use Rattle.short.specs.Laws.{Cr-fits, Cr-known, Cr-held};
-ghost use Rattle.std.proofs.Common.{rules};
 
 use crate::operands_of::CrOperands;
 use bits::layout::Layout;
@@ -30,13 +28,9 @@ impl Format for Cr {
 
     ghost fault = { Cr-fault };
 
-    ghost allows = { λ v. true };
-
     ghost fits = { Cr-fits };
 
     ghost known = { Cr-known };
-
-    ghost allowed = { Prim.search rules };
 
     ghost held = { Cr-held };
 
@@ -62,12 +56,12 @@ impl Format for Cr {
         }
     }
 
-    fn make(v: &Values) -> Option<CrOperands> {
-        Some(CrOperands {
+    fn make(v: &Values) -> CrOperands {
+        CrOperands {
             opcode: v.opcode,
             rs2: RegNum::of_bits(v.b),
             rd: RegNum::of_bits(v.d),
             funct4: v.funct,
-        })
+        }
     }
 }

@@ -1,9 +1,7 @@
 // bit 0 up: opcode 0-1 | 0 2-6 | rs1 7-11 | funct4 12-15
-ghost use Rattle.std.specs.Prelude.{true};
 ghost use Rattle.formats.specs.declared.kind.Kind.TheVariants.{Cr2 as Cr2-kind};
 ghost use Rattle.short.specs.Operands.{Cr2-values, Cr2-fault};
 ghost use Rattle.short.specs.Laws.{Cr2-fits, Cr2-known, Cr2-held};
-ghost use Rattle.std.proofs.Common.{rules};
 
 use crate::operands_of::Cr2Operands;
 use bits::layout::Layout;
@@ -30,13 +28,9 @@ impl Format for Cr2 {
 
     ghost fault = { Cr2-fault };
 
-    ghost allows = { λ v. true };
-
     ghost fits = { Cr2-fits };
 
     ghost known = { Cr2-known };
-
-    ghost allowed = { Prim.search rules };
 
     ghost held = { Cr2-held };
 
@@ -62,11 +56,11 @@ impl Format for Cr2 {
         }
     }
 
-    fn make(v: &Values) -> Option<Cr2Operands> {
-        Some(Cr2Operands {
+    fn make(v: &Values) -> Cr2Operands {
+        Cr2Operands {
             opcode: v.opcode,
             rs1: RegNum::of_bits(v.a),
             funct4: v.funct,
-        })
+        }
     }
 }

@@ -1,9 +1,7 @@
 // bit 0 up: opcode 0-1 | 0 2-6 | 0 7-11 | funct4 12-15
-ghost use Rattle.std.specs.Prelude.{true};
 ghost use Rattle.formats.specs.declared.kind.Kind.TheVariants.{CrBare as CrBare-kind};
 ghost use Rattle.short.specs.Operands.{CrBare-values, CrBare-fault};
 ghost use Rattle.short.specs.Laws.{CrBare-fits, CrBare-known, CrBare-held};
-ghost use Rattle.std.proofs.Common.{rules};
 
 use crate::operands_of::CrBareOperands;
 use bits::layout::Layout;
@@ -29,13 +27,9 @@ impl Format for CrBare {
 
     ghost fault = { CrBare-fault };
 
-    ghost allows = { λ v. true };
-
     ghost fits = { CrBare-fits };
 
     ghost known = { CrBare-known };
-
-    ghost allowed = { Prim.search rules };
 
     ghost held = { CrBare-held };
 
@@ -61,10 +55,10 @@ impl Format for CrBare {
         }
     }
 
-    fn make(v: &Values) -> Option<CrBareOperands> {
-        Some(CrBareOperands {
+    fn make(v: &Values) -> CrBareOperands {
+        CrBareOperands {
             opcode: v.opcode,
             funct4: v.funct,
-        })
+        }
     }
 }

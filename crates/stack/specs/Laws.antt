@@ -1,16 +1,16 @@
 -- The laws of each format.
-use Rattle.std.proofs.Common.{◌≡◌, ℕ, true, None, sym, refl, ap, lit<}
+use Rattle.std.proofs.Common.{◌≡◌, ℕ, None, sym, refl, ap, lit<}
 use Rattle.bits.specs.declared.part.Values.{Values}
-use Rattle.bits.specs.declared.part.Field.{Field}
 use Rattle.bits.specs.declared.part.Field.TheVariants.{D, A, B, N, M, Opcode, Funct3, Funct}
-use Rattle.bits.specs.Layout.{span, Fit}
+use Rattle.bits.specs.Layout.{Fit}
 use Rattle.operands.proofs.Sames.{signed_lt, signed_of, signed_of_bits, same_signed, same_num, same_unsigned}
 use Rattle.formats.specs.declared.kind.Kind.{Kind}
 use Rattle.formats.specs.declared.kind.Kind.TheVariants as kind
 use Rattle.formats.specs.Layouts.{layout}
+use Rattle.formats.specs.Lawful.{Spans}
 use Rattle.formats.proofs.Codes.{narrow, none_wide, none_there}
 use Rattle.formats.proofs.Sound.{fit_of}
-use Rattle.formats.proofs.Made.{made, fit_as, same_values}
+use Rattle.formats.proofs.Made.{fit_as, spans_at, same_values}
 use Rattle.stack.specs.declared.operands_of.CiAddi16spOperands.{CiAddi16spOperands}
 use Rattle.stack.specs.declared.operands_of.CiLoadOperands.{CiLoadOperands}
 use Rattle.stack.specs.declared.operands_of.CssOperands.{CssOperands}
@@ -23,9 +23,6 @@ CiAddi16sp-fits o e =
     let c = narrow (CiAddi16sp-codes o) e in
     fit_of (layout kind.CiAddi16sp) (CiAddi16sp-values o) (lit< tt) (lit< tt) (lit< tt) (signed_lt o.imm) (lit< tt) c.0 c.1.0 (lit< tt)
 
-pub CiAddi16sp-lawful : (o : CiAddi16spOperands) → Fit (layout kind.CiAddi16sp) (CiAddi16sp-values o) → CiAddi16sp-fault o ≡ None
-CiAddi16sp-lawful o f = none_wide (CiAddi16sp-codes o) (f Opcode, (f Funct3, tt))
-
 pub CiAddi16sp-known : (o p : CiAddi16spOperands) → CiAddi16sp-values o ≡ CiAddi16sp-values p → o ≡ p
 CiAddi16sp-known o p e =
     let at : (f : Values → ℕ) → f (CiAddi16sp-values o) ≡ f (CiAddi16sp-values p) = λ f. ap f e in
@@ -35,20 +32,18 @@ CiAddi16sp-known o p e =
       funct3 = at (λ v. v.funct3) i;
     }
 
-pub CiAddi16sp-held : (v : Values) → Fit (layout kind.CiAddi16sp) v → true ≡ true → (o : CiAddi16spOperands) × ((CiAddi16sp-fault o ≡ None) × (CiAddi16sp-values o ≡ v))
-CiAddi16sp-held v h t =
+pub CiAddi16sp-held : (v : Values) → Fit (layout kind.CiAddi16sp) v → (o : CiAddi16spOperands) × ((CiAddi16sp-fault o ≡ None) × (CiAddi16sp-values o ≡ v))
+CiAddi16sp-held v h =
     let o : CiAddi16spOperands = record { opcode = v.opcode; imm = signed_of 6 v.n (h N); funct3 = v.funct3 } in
-    (o, made CiAddi16sp-fault CiAddi16sp-values (layout kind.CiAddi16sp) CiAddi16sp-lawful v h o (same_values (none_there v.d (h D)) (none_there v.a (h A)) (none_there v.b (h B)) (signed_of_bits 6 v.n (h N)) (none_there v.m (h M)) refl refl (none_there v.funct (h Funct))))
+    let lawful = none_wide (CiAddi16sp-codes o) (h Opcode, (h Funct3, tt)) in
+    (o, (lawful, same_values (none_there v.d (h D)) (none_there v.a (h A)) (none_there v.b (h B)) (signed_of_bits 6 v.n (h N)) (none_there v.m (h M)) refl refl (none_there v.funct (h Funct))))
 
 -- ---- CiLoad: of any access, its fields are as wide as those of a word's
 
-pub CiLoad-fits : (k : Kind) → ((f : Field) → span (layout k) f ≡ span (layout kind.CiLwsp) f) → (o : CiLoadOperands) → CiLoad-fault o ≡ None → Fit (layout k) (CiLoad-values o)
+pub CiLoad-fits : (k : Kind) → Spans k kind.CiLwsp → (o : CiLoadOperands) → CiLoad-fault o ≡ None → Fit (layout k) (CiLoad-values o)
 CiLoad-fits k w o e =
     let c = narrow (CiLoad-codes o) e in
-    fit_as (layout kind.CiLwsp) (layout k) (λ f. sym (w f)) (CiLoad-values o) (fit_of (layout kind.CiLwsp) (CiLoad-values o) o.rd.ok (lit< tt) (lit< tt) o.imm.ok (lit< tt) c.0 c.1.0 (lit< tt))
-
-pub CiLoad-lawful : (o : CiLoadOperands) → Fit (layout kind.CiLwsp) (CiLoad-values o) → CiLoad-fault o ≡ None
-CiLoad-lawful o f = none_wide (CiLoad-codes o) (f Opcode, (f Funct3, tt))
+    fit_as (layout kind.CiLwsp) (layout k) (λ f. sym (spans_at w f)) (CiLoad-values o) (fit_of (layout kind.CiLwsp) (CiLoad-values o) o.rd.ok (lit< tt) (lit< tt) o.imm.ok (lit< tt) c.0 c.1.0 (lit< tt))
 
 pub CiLoad-known : (o p : CiLoadOperands) → CiLoad-values o ≡ CiLoad-values p → o ≡ p
 CiLoad-known o p e =
@@ -60,25 +55,19 @@ CiLoad-known o p e =
       funct3 = at (λ v. v.funct3) i;
     }
 
--- operands with these values, in fields that fit
-pub CiLoad-made : (v : Values) → Fit (layout kind.CiLwsp) v → (o : CiLoadOperands) → o.opcode ≡ v.opcode → o.rd.value ≡ v.d → o.imm.value ≡ v.n → o.funct3 ≡ v.funct3 → (CiLoad-fault o ≡ None) × (CiLoad-values o ≡ v)
-CiLoad-made v h o opcode rd imm funct3 = made CiLoad-fault CiLoad-values (layout kind.CiLwsp) CiLoad-lawful v h o (same_values rd (none_there v.a (h A)) (none_there v.b (h B)) imm (none_there v.m (h M)) opcode funct3 (none_there v.funct (h Funct)))
-
-pub CiLoad-held : (k : Kind) → ((f : Field) → span (layout k) f ≡ span (layout kind.CiLwsp) f) → (v : Values) → Fit (layout k) v → true ≡ true → (o : CiLoadOperands) × ((CiLoad-fault o ≡ None) × (CiLoad-values o ≡ v))
-CiLoad-held k w v f t =
-    let h = fit_as (layout k) (layout kind.CiLwsp) w v f in
+pub CiLoad-held : (k : Kind) → Spans k kind.CiLwsp → (v : Values) → Fit (layout k) v → (o : CiLoadOperands) × ((CiLoad-fault o ≡ None) × (CiLoad-values o ≡ v))
+CiLoad-held k w v f =
+    let h = fit_as (layout k) (layout kind.CiLwsp) (spans_at w) v f in
     let o : CiLoadOperands = record { opcode = v.opcode; rd = record { value = v.d; ok = h D }; imm = record { value = v.n; ok = h N }; funct3 = v.funct3 } in
-    (o, CiLoad-made v h o refl refl refl refl)
+    let lawful = none_wide (CiLoad-codes o) (h Opcode, (h Funct3, tt)) in
+    (o, (lawful, same_values refl (none_there v.a (h A)) (none_there v.b (h B)) refl (none_there v.m (h M)) refl refl (none_there v.funct (h Funct))))
 
 -- ---- Css: of any access, its fields are as wide as those of a word's
 
-pub Css-fits : (k : Kind) → ((f : Field) → span (layout k) f ≡ span (layout kind.CssWord) f) → (o : CssOperands) → Css-fault o ≡ None → Fit (layout k) (Css-values o)
+pub Css-fits : (k : Kind) → Spans k kind.CssWord → (o : CssOperands) → Css-fault o ≡ None → Fit (layout k) (Css-values o)
 Css-fits k w o e =
     let c = narrow (Css-codes o) e in
-    fit_as (layout kind.CssWord) (layout k) (λ f. sym (w f)) (Css-values o) (fit_of (layout kind.CssWord) (Css-values o) (lit< tt) (lit< tt) o.src.ok o.imm.ok (lit< tt) c.0 c.1.0 (lit< tt))
-
-pub Css-lawful : (o : CssOperands) → Fit (layout kind.CssWord) (Css-values o) → Css-fault o ≡ None
-Css-lawful o f = none_wide (Css-codes o) (f Opcode, (f Funct3, tt))
+    fit_as (layout kind.CssWord) (layout k) (λ f. sym (spans_at w f)) (Css-values o) (fit_of (layout kind.CssWord) (Css-values o) (lit< tt) (lit< tt) o.src.ok o.imm.ok (lit< tt) c.0 c.1.0 (lit< tt))
 
 pub Css-known : (o p : CssOperands) → Css-values o ≡ Css-values p → o ≡ p
 Css-known o p e =
@@ -90,12 +79,9 @@ Css-known o p e =
       funct3 = at (λ v. v.funct3) i;
     }
 
--- operands with these values, in fields that fit
-pub Css-made : (v : Values) → Fit (layout kind.CssWord) v → (o : CssOperands) → o.opcode ≡ v.opcode → o.src.value ≡ v.b → o.imm.value ≡ v.n → o.funct3 ≡ v.funct3 → (Css-fault o ≡ None) × (Css-values o ≡ v)
-Css-made v h o opcode src imm funct3 = made Css-fault Css-values (layout kind.CssWord) Css-lawful v h o (same_values (none_there v.d (h D)) (none_there v.a (h A)) src imm (none_there v.m (h M)) opcode funct3 (none_there v.funct (h Funct)))
-
-pub Css-held : (k : Kind) → ((f : Field) → span (layout k) f ≡ span (layout kind.CssWord) f) → (v : Values) → Fit (layout k) v → true ≡ true → (o : CssOperands) × ((Css-fault o ≡ None) × (Css-values o ≡ v))
-Css-held k w v f t =
-    let h = fit_as (layout k) (layout kind.CssWord) w v f in
+pub Css-held : (k : Kind) → Spans k kind.CssWord → (v : Values) → Fit (layout k) v → (o : CssOperands) × ((Css-fault o ≡ None) × (Css-values o ≡ v))
+Css-held k w v f =
+    let h = fit_as (layout k) (layout kind.CssWord) (spans_at w) v f in
     let o : CssOperands = record { opcode = v.opcode; src = record { value = v.b; ok = h B }; imm = record { value = v.n; ok = h N }; funct3 = v.funct3 } in
-    (o, Css-made v h o refl refl refl refl)
+    let lawful = none_wide (Css-codes o) (h Opcode, (h Funct3, tt)) in
+    (o, (lawful, same_values (none_there v.d (h D)) (none_there v.a (h A)) refl refl (none_there v.m (h M)) refl refl (none_there v.funct (h Funct))))

@@ -1,9 +1,7 @@
 // bit 0 up: opcode 0-1 | imm[5] 2 | imm[8:7] 3-4 | imm[6] 5 | imm[4] 6 | 2 7-11 | imm[9] 12 | funct3 13-15
-ghost use Rattle.std.specs.Prelude.{true};
 ghost use Rattle.formats.specs.declared.kind.Kind.TheVariants.{CiAddi16sp as CiAddi16sp-kind};
 ghost use Rattle.stack.specs.Operands.{CiAddi16sp-values, CiAddi16sp-fault};
 ghost use Rattle.stack.specs.Laws.{CiAddi16sp-fits, CiAddi16sp-known, CiAddi16sp-held};
-ghost use Rattle.std.proofs.Common.{rules};
 
 use crate::operands_of::CiAddi16spOperands;
 use bits::layout::Layout;
@@ -34,13 +32,9 @@ impl Format for CiAddi16sp {
 
     ghost fault = { CiAddi16sp-fault };
 
-    ghost allows = { λ v. true };
-
     ghost fits = { CiAddi16sp-fits };
 
     ghost known = { CiAddi16sp-known };
-
-    ghost allowed = { Prim.search rules };
 
     ghost held = { CiAddi16sp-held };
 
@@ -66,11 +60,11 @@ impl Format for CiAddi16sp {
         }
     }
 
-    fn make(v: &Values) -> Option<CiAddi16spOperands> {
-        Some(CiAddi16spOperands {
+    fn make(v: &Values) -> CiAddi16spOperands {
+        CiAddi16spOperands {
             opcode: v.opcode,
             imm: Imm6::of_bits(v.n),
             funct3: v.funct3,
-        })
+        }
     }
 }

@@ -1,11 +1,5 @@
 // A load by the stack pointer.
-ghost use Rattle.std.specs.Prelude.{◌≡◌, true, refl};
-ghost use Rattle.bits.specs.Layout.{span};
-ghost use Rattle.bits.specs.declared.part.Field.{Field};
-ghost use Rattle.formats.specs.declared.kind.Kind.{Kind};
 ghost use Rattle.formats.specs.declared.kind.Kind.TheVariants.{CiLwsp as word-kind, CiLdsp as double-kind};
-ghost use Rattle.formats.specs.Layouts.{layout};
-ghost use Rattle.stack.specs.Spans.{double_load_spans};
 ghost use Rattle.stack.specs.Operands.{CiLoad-values, CiLoad-fault};
 ghost use Rattle.stack.specs.Laws.{CiLoad-fits, CiLoad-known, CiLoad-held};
 ghost use Rattle.std.proofs.Common.{rules};
@@ -13,22 +7,18 @@ ghost use Rattle.std.proofs.Common.{rules};
 use crate::operands_of::CiLoadOperands;
 use bits::layout::Layout;
 use bits::part::{Field, Part, Values};
-use formats::access::{Double, Word};
+use formats::access::{Access, Double, Family, Word};
 use formats::faults::{WideCode, narrow};
 use formats::format::Format;
 use operands::imms::Uimm6;
 use operands::regs::RegNum;
 use std::marker::PhantomData;
 
-// The layouts of loads, by what they reach: they differ in where the bits of the offset stand.
-// Stays a trait of its own: its law names CiLwsp, the format whose widths the layouts share.
-pub trait CiAccess {
-    ghost kind: { Kind };
+// Loads by the stack pointer.
+pub struct Loads;
 
-    fn layout() -> Layout<'static>
-        ensures { result.parts.now ≡ layout kind };
-
-    ghost spans: { (f : Field) → span (layout kind) f ≡ span (layout word-kind) f };
+impl Family for Loads {
+    ghost widths = { word-kind };
 }
 
 // bit 0 up: opcode 0-1 | imm[7:6] 2-3 | imm[4:2] 4-6 | rd 7-11 | imm[5] 12 | funct3 13-15
@@ -41,10 +31,10 @@ const WORD: [Part; 6] = [
     Part::Slice(Field::Funct3, 0, 3),
 ];
 
-impl CiAccess for Word {
+impl Access<Loads> for Word {
     ghost kind = { word-kind };
 
-    ghost spans = { λ f. refl };
+    ghost spans = { Prim.search rules };
 
     fn layout() -> Layout<'static> {
         Layout { parts: &WORD }
@@ -61,10 +51,10 @@ const DOUBLE: [Part; 6] = [
     Part::Slice(Field::Funct3, 0, 3),
 ];
 
-impl CiAccess for Double {
+impl Access<Loads> for Double {
     ghost kind = { double-kind };
 
-    ghost spans = { double_load_spans };
+    ghost spans = { Prim.search rules };
 
     fn layout() -> Layout<'static> {
         Layout { parts: &DOUBLE }
@@ -79,7 +69,7 @@ pub type CiLwsp = CiLoad<Word>;
 
 pub type CiLdsp = CiLoad<Double>;
 
-impl<A: CiAccess> Format for CiLoad<A> {
+impl<A: Access<Loads>> Format for CiLoad<A> {
     type Operands = CiLoadOperands;
 
     ghost kind = { A.kind };
@@ -88,13 +78,9 @@ impl<A: CiAccess> Format for CiLoad<A> {
 
     ghost fault = { CiLoad-fault };
 
-    ghost allows = { λ v. true };
-
     ghost fits = { CiLoad-fits A.kind A.spans };
 
     ghost known = { CiLoad-known };
-
-    ghost allowed = { Prim.search rules };
 
     ghost held = { CiLoad-held A.kind A.spans };
 
@@ -120,12 +106,12 @@ impl<A: CiAccess> Format for CiLoad<A> {
         }
     }
 
-    fn make(v: &Values) -> Option<CiLoadOperands> {
-        Some(CiLoadOperands {
+    fn make(v: &Values) -> CiLoadOperands {
+        CiLoadOperands {
             opcode: v.opcode,
             rd: RegNum::of_bits(v.d),
             imm: Uimm6::of_bits(v.n),
             funct3: v.funct3,
-        })
+        }
     }
 }

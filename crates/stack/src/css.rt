@@ -1,11 +1,5 @@
 // A store by the stack pointer.
-ghost use Rattle.std.specs.Prelude.{◌≡◌, true, refl};
-ghost use Rattle.bits.specs.Layout.{span};
-ghost use Rattle.bits.specs.declared.part.Field.{Field};
-ghost use Rattle.formats.specs.declared.kind.Kind.{Kind};
 ghost use Rattle.formats.specs.declared.kind.Kind.TheVariants.{CssWord as word-kind, CssDouble as double-kind};
-ghost use Rattle.formats.specs.Layouts.{layout};
-ghost use Rattle.stack.specs.Spans.{double_store_spans};
 ghost use Rattle.stack.specs.Operands.{Css-values, Css-fault};
 ghost use Rattle.stack.specs.Laws.{Css-fits, Css-known, Css-held};
 ghost use Rattle.std.proofs.Common.{rules};
@@ -13,22 +7,18 @@ ghost use Rattle.std.proofs.Common.{rules};
 use crate::operands_of::CssOperands;
 use bits::layout::Layout;
 use bits::part::{Field, Part, Values};
-use formats::access::{Double, Word};
+use formats::access::{Access, Double, Family, Word};
 use formats::faults::{WideCode, narrow};
 use formats::format::Format;
 use operands::imms::Uimm6;
 use operands::regs::RegNum;
 use std::marker::PhantomData;
 
-// The layouts of stores, by what they reach: they differ in where the bits of the offset stand.
-// Stays a trait of its own: its law names CssWord, the format whose widths the layouts share.
-pub trait CssAccess {
-    ghost kind: { Kind };
+// Stores by the stack pointer.
+pub struct Stores;
 
-    fn layout() -> Layout<'static>
-        ensures { result.parts.now ≡ layout kind };
-
-    ghost spans: { (f : Field) → span (layout kind) f ≡ span (layout word-kind) f };
+impl Family for Stores {
+    ghost widths = { word-kind };
 }
 
 // bit 0 up: opcode 0-1 | src 2-6 | imm[7:6] 7-8 | imm[5:2] 9-12 | funct3 13-15
@@ -40,10 +30,10 @@ const WORD: [Part; 5] = [
     Part::Slice(Field::Funct3, 0, 3),
 ];
 
-impl CssAccess for Word {
+impl Access<Stores> for Word {
     ghost kind = { word-kind };
 
-    ghost spans = { λ f. refl };
+    ghost spans = { Prim.search rules };
 
     fn layout() -> Layout<'static> {
         Layout { parts: &WORD }
@@ -59,10 +49,10 @@ const DOUBLE: [Part; 5] = [
     Part::Slice(Field::Funct3, 0, 3),
 ];
 
-impl CssAccess for Double {
+impl Access<Stores> for Double {
     ghost kind = { double-kind };
 
-    ghost spans = { double_store_spans };
+    ghost spans = { Prim.search rules };
 
     fn layout() -> Layout<'static> {
         Layout { parts: &DOUBLE }
@@ -77,7 +67,7 @@ pub type CssWord = Css<Word>;
 
 pub type CssDouble = Css<Double>;
 
-impl<A: CssAccess> Format for Css<A> {
+impl<A: Access<Stores>> Format for Css<A> {
     type Operands = CssOperands;
 
     ghost kind = { A.kind };
@@ -86,13 +76,9 @@ impl<A: CssAccess> Format for Css<A> {
 
     ghost fault = { Css-fault };
 
-    ghost allows = { λ v. true };
-
     ghost fits = { Css-fits A.kind A.spans };
 
     ghost known = { Css-known };
-
-    ghost allowed = { Prim.search rules };
 
     ghost held = { Css-held A.kind A.spans };
 
@@ -118,12 +104,12 @@ impl<A: CssAccess> Format for Css<A> {
         }
     }
 
-    fn make(v: &Values) -> Option<CssOperands> {
-        Some(CssOperands {
+    fn make(v: &Values) -> CssOperands {
+        CssOperands {
             opcode: v.opcode,
             src: RegNum::of_bits(v.b),
             imm: Uimm6::of_bits(v.n),
             funct3: v.funct3,
-        })
+        }
     }
 }

@@ -1,5 +1,6 @@
 pub mod Answers
 pub mod Fronts
+pub mod GetOr
 pub mod Halves
 pub mod Part
 pub mod Puts

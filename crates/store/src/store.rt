@@ -1,4 +1,4 @@
-ghost use Rattle.std.specs.Prelude.{◌≡◌, ℕ, ◌-◌, ◌<◌, ◌≤◌, List, [], length, Ok, Err, OnOk, if◌then◌else◌, nat_lt, slice_set};
+ghost use Rattle.std.specs.Prelude.{◌≡◌, ℕ, ◌-◌, ◌<◌, ◌≤◌, List, [], length, Ok, Err, OnOk, if◌then◌else◌, nat_lt, slice_index, slice_set};
 ghost use Rattle.std.specs.List.{slice_get};
 ghost use Rattle.store.specs.Answers.{fault_number, put_answer, span_answer, when};
 ghost use Rattle.store.specs.Puts.{applied, puts};
@@ -41,6 +41,14 @@ pub trait Store {
         ensures after { halfwords self.new ≡ slice_set (halfwords self.old) place half };
 }
 
+/// The halfword at a place, 0 outside.
+#[tactic(auto, using(crate::proofs::GetOr::get_or))]
+pub fn half_at<S: Store>(store: &S, place: usize) -> u16
+    ensures { result ≡ slice_index (S.halfwords store.now) place }
+{
+    store.get(place).unwrap_or(0)
+}
+
 /// Puts the halfwords of a list from a place up, in order. Where a place among them lies outside, nothing is put, and the first such place is named.
 pub fn write<S: Store>(store: &mut S, place: usize, list: &[u16]) -> Result<(), StoreFault>
     ensures answer { result ≡ span_answer (length (S.halfwords store.old)) place (length list.now) }
@@ -50,7 +58,7 @@ pub fn write<S: Store>(store: &mut S, place: usize, list: &[u16]) -> Result<(), 
     put_all(store, place, list)
 }
 
-// Whether a place lies in a store of this size.
+// Refuses a place outside a store of this size.
 pub(crate) fn inside(place: usize, size: usize) -> Result<(), StoreFault>
     ensures is { result ≡ (if nat_lt place size then Ok tt else Err (StoreFault.Outside place)) }
     ensures lies { OnOk result (place < size) }
@@ -62,7 +70,7 @@ pub(crate) fn inside(place: usize, size: usize) -> Result<(), StoreFault>
     }
 }
 
-// Whether `count` halfwords from `place` up lie in a store of this size.
+// Refuses `count` halfwords from `place` up where they don't all lie in a store of this size.
 fn fits(size: usize, place: usize, count: usize) -> Result<(), StoreFault>
     ensures { result ≡ span_answer size place count }
 {

@@ -2,7 +2,7 @@
 use Rattle.std.proofs.Common.{◌≡◌, ℕ, ◌+◌, ◌<◌, ◌≤◌, Bool, true, false, cond, not, eqb, ltb, List, [], ◌∷◌, ◌++◌, length, get_or, take, drop, position, Some, None, refl, ap, ◌∙◌, subst, ⊎_elim, arith, one-add}
 use Rattle.std.specs.List.{position_or_len, before_first}
 use Rattle.std.proofs.lemmas.List.{take_all}
-use Rattle.std.proofs.lemmas.List.Sums.{prefix_len-le-length, split_at_first, passes_at_first}
+use Rattle.std.proofs.lemmas.List.Sums.{split_at_first, passes_at_first}
 use Rattle.std.proofs.lemmas.Bool.{cond-true, cond-false, lt-ltb, le-ltb, eqb-true, eqb-false, cases_lt}
 use Rattle.text.specs.Bytes.{Without}
 
@@ -13,9 +13,6 @@ far m xs = position_or_len (λ x. eqb x m) xs
 -- the bytes before the first mark, all of them where there is none
 abbrev pub until : ℕ → List ℕ → List ℕ
 until m xs = before_first (λ x. eqb x m) xs
-
-pub far_le : (m : ℕ) (xs : List ℕ) → far m xs ≤ length xs
-far_le m xs = prefix_len-le-length (λ x. not (eqb x m)) xs
 
 -- a place found is the first mark's
 pub found : (m : ℕ) (xs : List ℕ) (n : ℕ) → position (λ x. eqb x m) xs ≡ Some n → (n ≡ far m xs) × (far m xs < length xs)

@@ -5,4 +5,6 @@ pub mod Fields
 pub mod Shown
 pub mod Decimal
 pub mod Numbers
+pub mod Found
 pub mod Written
+pub mod Words

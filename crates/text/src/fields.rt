@@ -1,5 +1,5 @@
 // The fields of a line: each is a part of the line's bytes.
-ghost use Rattle.std.specs.Prelude.{◌≡◌, ◌≤◌, length, is_some, nat_lt};
+ghost use Rattle.std.specs.Prelude.{◌≡◌, ◌==◌, ◌≤◌, length, is_some, nat_lt};
 ghost use Rattle.std.specs.Option.{ForSome, option_map};
 ghost use Rattle.std.specs.Iterator.{YieldsFirstBy, item_count};
 ghost use Rattle.text.specs.Fields.{fields, part, parts_from, field_of, text_of, place_of, FieldsExact};
@@ -40,6 +40,7 @@ impl<'a> Field<'a> {
 }
 
 // The fields of a line, one after the other.
+// Stays an iterator of its own: std's `split` does not tell where in the line a field begins.
 #[derive(Clone, Copy, Drop)]
 pub struct Fields<'a> {
     line: &'a [u8],
@@ -84,11 +85,17 @@ impl<'a> Iterator for Fields<'a> {
     }
 }
 
+fn is_comma(b: &u8) -> bool
+    ensures { result ≡ (b.now == 44) }
+{
+    *b == b','
+}
+
 // How many fields the line has.
 pub fn count(line: &[u8]) -> usize
     ensures { result ≡ length (fields line.now) }
 {
-    line.split(|b| *b == b',').count()
+    line.split(is_comma).count()
 }
 
 // Field `k` of the line, counted from 0; none where the line has no more than `k` fields.
@@ -103,7 +110,7 @@ pub fn get<'a>(line: &'a [u8], k: usize) -> Option<Field<'a>>
 pub fn position(line: &[u8], name: &[u8]) -> Option<usize>
     ensures { result ≡ place_of (fields line.now) name.now }
 {
-    line.split(|b| *b == b',').position(|text| text == name)
+    line.split(is_comma).position(|text| text == name)
 }
 
 // The fields of a line are the only texts without a comma that write it.

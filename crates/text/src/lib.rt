@@ -5,4 +5,5 @@ mod bytes;
 pub mod fields;
 pub mod lines;
 pub mod numbers;
+pub mod words;
 pub mod writing;

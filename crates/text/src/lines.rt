@@ -11,6 +11,7 @@ use crate::bytes::place;
 pub struct Unended<'a>(pub &'a [u8]);
 
 // The lines of a sheet, one after the other, each without its newline; an unended one comes last.
+// Stays an iterator of its own: std's `split_inclusive` leaves the newline on a line, and a function cannot answer `impl Iterator`.
 #[derive(Clone, Copy, Drop)]
 pub struct Lines<'a> {
     // what is left of the sheet

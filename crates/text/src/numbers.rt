@@ -19,6 +19,7 @@ fn with_digit(n: u64, b: u8) -> Option<u64>
 fn digits_value(bytes: &[u8]) -> Option<u64>
     ensures { result ≡ under (2 ^ 64) (value_after 0 bytes.now) }
 {
+    // Stays a loop: tried as a `try_fold`, and what it answers did not prove.
     let mut n = 0;
     for b in bytes {
         n = with_digit(n, *b)?;

@@ -1,10 +1,12 @@
 // Text written piece by piece into memory of a fixed size.
-ghost use Rattle.std.specs.Prelude.{◌≡◌, ℕ, ◌+◌, ◌<◌, ◌≤◌, List, [], ◌∷◌, ◌++◌, ◌-◌, min, Some, Ok, length, take};
+ghost use Rattle.std.specs.Prelude.{◌≡◌, ℕ, ◌+◌, ◌<◌, ◌≤◌, List, [], ◌++◌, ◌-◌, min, Some, Ok, length, take};
 ghost use Rattle.std.specs.Io.{WritesAtMost};
 ghost use Rattle.std.specs.Io.KnownBytes.{WriteAppends};
 ghost use Rattle.text.specs.Decimal.{digits};
+ghost use Rattle.text.specs.Words.{hex_of};
 ghost use Rattle.text.specs.Written.{overwritten, hex_digit, hex};
 
+use crate::words::Word;
 use std::io;
 use std::io::Write;
 use std::marker::Model;
@@ -52,8 +54,10 @@ impl<const N: usize> Text<N> {
         ensures text { self.new ≡ self.old ++ bytes.now }
         ensures len { length self.new ≡ length self.old + length bytes.now }
     {
-        copy_at(&mut self.bytes, self.len, bytes);
-        self.len += bytes.len();
+        let end = self.len + bytes.len();
+        let all = &mut self.bytes[..];
+        all[self.len..end].copy_from_slice(bytes);
+        self.len = end;
     }
 
     /// Writes the number in decimal, with no leading zero.
@@ -78,13 +82,25 @@ impl<const N: usize> Text<N> {
         self.len = end;
     }
 
+    /// Writes the word in hexadecimal, four digits a halfword.
+    pub fn write_word(&mut self, word: Word)
+        requires { length self.old + length (hex_of word) ≤ N }
+        ensures text { self.new ≡ self.old ++ hex_of word }
+        ensures len { length self.new ≡ length self.old + length (hex_of word) }
+    {
+        match word {
+            Word::Short(half) => self.write_hex(u32::from(half), 4),
+            Word::Wide(both) => self.write_hex(both, 8),
+        }
+    }
+
     /// Copies the text to the start of a buffer, and tells how long it is.
     pub fn copy_to(&self, out: &mut [u8]) -> usize
         requires { length self.now ≤ length out.old }
         ensures end { result ≡ length self.now }
         ensures after { out.new ≡ overwritten out.old 0 self.now }
     {
-        copy_at(out, 0, self.as_bytes());
+        out[..self.len].copy_from_slice(self.as_bytes());
         self.len
     }
 }
@@ -106,15 +122,6 @@ impl<const N: usize> Write for Text<N> {
     fn flush(&mut self) -> io::Result<()> {
         Ok(())
     }
-}
-
-// Copies the bytes into a buffer, from a place on.
-fn copy_at(out: &mut [u8], at: usize, bytes: &[u8])
-    requires { at + length bytes.now ≤ length out.old }
-    ensures { out.new ≡ overwritten out.old at bytes.now }
-{
-    let end = at + bytes.len();
-    out[at..end].copy_from_slice(bytes);
 }
 
 // The number in decimal: the digits of its tenth, and the last.

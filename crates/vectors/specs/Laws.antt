@@ -1,5 +1,5 @@
 -- The laws of each format.
-use Rattle.std.proofs.Common.{◌≡◌, ℕ, true, None, refl, ap, lit<}
+use Rattle.std.proofs.Common.{◌≡◌, ℕ, None, refl, ap, lit<}
 use Rattle.bits.specs.declared.part.Values.{Values}
 use Rattle.bits.specs.declared.part.Field.TheVariants.{D, A, B, N, M, Opcode, Funct3, Funct}
 use Rattle.bits.specs.Layout.{Fit}
@@ -8,7 +8,7 @@ use Rattle.formats.specs.declared.kind.Kind.TheVariants as kind
 use Rattle.formats.specs.Layouts.{layout}
 use Rattle.formats.proofs.Codes.{narrow, none_wide, none_there}
 use Rattle.formats.proofs.Sound.{fit_of}
-use Rattle.formats.proofs.Made.{made, same_values}
+use Rattle.formats.proofs.Made.{same_values}
 use Rattle.vectors.specs.declared.operands_of.VOperands.{VOperands}
 use Rattle.vectors.specs.declared.operands_of.VImmOperands.{VImmOperands}
 use Rattle.vectors.specs.declared.operands_of.VMemOperands.{VMemOperands}
@@ -20,9 +20,6 @@ pub V-fits : (o : VOperands) → V-fault o ≡ None → Fit (layout kind.V) (V-v
 V-fits o e =
     let c = narrow (V-codes o) e in
     fit_of (layout kind.V) (V-values o) o.vd.ok o.vs1.ok o.vs2.ok (lit< tt) (mask_lt o.masking) c.0 c.1.0 c.1.1.0
-
-pub V-lawful : (o : VOperands) → Fit (layout kind.V) (V-values o) → V-fault o ≡ None
-V-lawful o f = none_wide (V-codes o) (f Opcode, (f Funct3, (f Funct, tt)))
 
 pub V-known : (o p : VOperands) → V-values o ≡ V-values p → o ≡ p
 V-known o p e =
@@ -37,10 +34,11 @@ V-known o p e =
       funct6 = at (λ v. v.funct) i;
     }
 
-pub V-held : (v : Values) → Fit (layout kind.V) v → true ≡ true → (o : VOperands) × ((V-fault o ≡ None) × (V-values o ≡ v))
-V-held v h t =
+pub V-held : (v : Values) → Fit (layout kind.V) v → (o : VOperands) × ((V-fault o ≡ None) × (V-values o ≡ v))
+V-held v h =
     let o : VOperands = record { opcode = v.opcode; vd = record { value = v.d; ok = h D }; funct3 = v.funct3; vs1 = record { value = v.a; ok = h A }; vs2 = record { value = v.b; ok = h B }; masking = mask_of v.m (h M); funct6 = v.funct } in
-    (o, made V-fault V-values (layout kind.V) V-lawful v h o (same_values refl refl refl (none_there v.n (h N)) (mask_of_bits v.m (h M)) refl refl refl))
+    let lawful = none_wide (V-codes o) (h Opcode, (h Funct3, (h Funct, tt))) in
+    (o, (lawful, same_values refl refl refl (none_there v.n (h N)) (mask_of_bits v.m (h M)) refl refl refl))
 
 -- ---- VImm
 
@@ -48,9 +46,6 @@ pub VImm-fits : (o : VImmOperands) → VImm-fault o ≡ None → Fit (layout kin
 VImm-fits o e =
     let c = narrow (VImm-codes o) e in
     fit_of (layout kind.VImm) (VImm-values o) o.vd.ok (lit< tt) o.vs2.ok (signed_lt o.imm) (mask_lt o.masking) c.0 c.1.0 c.1.1.0
-
-pub VImm-lawful : (o : VImmOperands) → Fit (layout kind.VImm) (VImm-values o) → VImm-fault o ≡ None
-VImm-lawful o f = none_wide (VImm-codes o) (f Opcode, (f Funct3, (f Funct, tt)))
 
 pub VImm-known : (o p : VImmOperands) → VImm-values o ≡ VImm-values p → o ≡ p
 VImm-known o p e =
@@ -65,10 +60,11 @@ VImm-known o p e =
       funct6 = at (λ v. v.funct) i;
     }
 
-pub VImm-held : (v : Values) → Fit (layout kind.VImm) v → true ≡ true → (o : VImmOperands) × ((VImm-fault o ≡ None) × (VImm-values o ≡ v))
-VImm-held v h t =
+pub VImm-held : (v : Values) → Fit (layout kind.VImm) v → (o : VImmOperands) × ((VImm-fault o ≡ None) × (VImm-values o ≡ v))
+VImm-held v h =
     let o : VImmOperands = record { opcode = v.opcode; vd = record { value = v.d; ok = h D }; funct3 = v.funct3; imm = signed_of 5 v.n (h N); vs2 = record { value = v.b; ok = h B }; masking = mask_of v.m (h M); funct6 = v.funct } in
-    (o, made VImm-fault VImm-values (layout kind.VImm) VImm-lawful v h o (same_values refl (none_there v.a (h A)) refl (signed_of_bits 5 v.n (h N)) (mask_of_bits v.m (h M)) refl refl refl))
+    let lawful = none_wide (VImm-codes o) (h Opcode, (h Funct3, (h Funct, tt))) in
+    (o, (lawful, same_values refl (none_there v.a (h A)) refl (signed_of_bits 5 v.n (h N)) (mask_of_bits v.m (h M)) refl refl refl))
 
 -- ---- VMem
 
@@ -76,9 +72,6 @@ pub VMem-fits : (o : VMemOperands) → VMem-fault o ≡ None → Fit (layout kin
 VMem-fits o e =
     let c = narrow (VMem-codes o) e in
     fit_of (layout kind.VMem) (VMem-values o) o.vd.ok o.rs1.ok (lit< tt) (lit< tt) (mask_lt o.masking) c.0 c.1.0 (lit< tt)
-
-pub VMem-lawful : (o : VMemOperands) → Fit (layout kind.VMem) (VMem-values o) → VMem-fault o ≡ None
-VMem-lawful o f = none_wide (VMem-codes o) (f Opcode, (f Funct3, tt))
 
 pub VMem-known : (o p : VMemOperands) → VMem-values o ≡ VMem-values p → o ≡ p
 VMem-known o p e =
@@ -91,7 +84,8 @@ VMem-known o p e =
       masking = same_mask o.masking p.masking (at (λ v. v.m)) i;
     }
 
-pub VMem-held : (v : Values) → Fit (layout kind.VMem) v → true ≡ true → (o : VMemOperands) × ((VMem-fault o ≡ None) × (VMem-values o ≡ v))
-VMem-held v h t =
+pub VMem-held : (v : Values) → Fit (layout kind.VMem) v → (o : VMemOperands) × ((VMem-fault o ≡ None) × (VMem-values o ≡ v))
+VMem-held v h =
     let o : VMemOperands = record { opcode = v.opcode; vd = record { value = v.d; ok = h D }; width = v.funct3; rs1 = record { value = v.a; ok = h A }; masking = mask_of v.m (h M) } in
-    (o, made VMem-fault VMem-values (layout kind.VMem) VMem-lawful v h o (same_values refl refl (none_there v.b (h B)) (none_there v.n (h N)) (mask_of_bits v.m (h M)) refl refl (none_there v.funct (h Funct))))
+    let lawful = none_wide (VMem-codes o) (h Opcode, (h Funct3, tt)) in
+    (o, (lawful, same_values refl refl (none_there v.b (h B)) (none_there v.n (h N)) (mask_of_bits v.m (h M)) refl refl (none_there v.funct (h Funct))))

@@ -1,9 +1,7 @@
 // bit 0 up: opcode 0-6 | vd 7-11 | funct3 12-14 | vs1 15-19 | vs2 20-24 | masking 25 | funct6 26-31
-ghost use Rattle.std.specs.Prelude.{true};
 ghost use Rattle.formats.specs.declared.kind.Kind.TheVariants.{V as V-kind};
 ghost use Rattle.vectors.specs.Operands.{V-values, V-fault};
 ghost use Rattle.vectors.specs.Laws.{V-fits, V-known, V-held};
-ghost use Rattle.std.proofs.Common.{rules};
 
 use crate::operands_of::VOperands;
 use bits::layout::Layout;
@@ -34,13 +32,9 @@ impl Format for V {
 
     ghost fault = { V-fault };
 
-    ghost allows = { λ v. true };
-
     ghost fits = { V-fits };
 
     ghost known = { V-known };
-
-    ghost allowed = { Prim.search rules };
 
     ghost held = { V-held };
 
@@ -67,8 +61,8 @@ impl Format for V {
         }
     }
 
-    fn make(v: &Values) -> Option<VOperands> {
-        Some(VOperands {
+    fn make(v: &Values) -> VOperands {
+        VOperands {
             opcode: v.opcode,
             vd: RegNum::of_bits(v.d),
             funct3: v.funct3,
@@ -76,6 +70,6 @@ impl Format for V {
             vs2: RegNum::of_bits(v.b),
             masking: VecOpMasking::of_bits(v.m),
             funct6: v.funct,
-        })
+        }
     }
 }

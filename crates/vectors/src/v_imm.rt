@@ -1,9 +1,7 @@
 // bit 0 up: opcode 0-6 | vd 7-11 | funct3 12-14 | imm[4:0] 15-19 | vs2 20-24 | masking 25 | funct6 26-31
-ghost use Rattle.std.specs.Prelude.{true};
 ghost use Rattle.formats.specs.declared.kind.Kind.TheVariants.{VImm as VImm-kind};
 ghost use Rattle.vectors.specs.Operands.{VImm-values, VImm-fault};
 ghost use Rattle.vectors.specs.Laws.{VImm-fits, VImm-known, VImm-held};
-ghost use Rattle.std.proofs.Common.{rules};
 
 use crate::operands_of::VImmOperands;
 use bits::layout::Layout;
@@ -35,13 +33,9 @@ impl Format for VImm {
 
     ghost fault = { VImm-fault };
 
-    ghost allows = { λ v. true };
-
     ghost fits = { VImm-fits };
 
     ghost known = { VImm-known };
-
-    ghost allowed = { Prim.search rules };
 
     ghost held = { VImm-held };
 
@@ -68,8 +62,8 @@ impl Format for VImm {
         }
     }
 
-    fn make(v: &Values) -> Option<VImmOperands> {
-        Some(VImmOperands {
+    fn make(v: &Values) -> VImmOperands {
+        VImmOperands {
             opcode: v.opcode,
             vd: RegNum::of_bits(v.d),
             funct3: v.funct3,
@@ -77,6 +71,6 @@ impl Format for VImm {
             vs2: RegNum::of_bits(v.b),
             masking: VecOpMasking::of_bits(v.m),
             funct6: v.funct,
-        })
+        }
     }
 }

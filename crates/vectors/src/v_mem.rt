@@ -1,9 +1,7 @@
 // bit 0 up: opcode 0-6 | vd 7-11 | width 12-14 | rs1 15-19 | 0 20-24 | masking 25 | 0 26-27 | 0 28 | 0 29-31
-ghost use Rattle.std.specs.Prelude.{true};
 ghost use Rattle.formats.specs.declared.kind.Kind.TheVariants.{VMem as VMem-kind};
 ghost use Rattle.vectors.specs.Operands.{VMem-values, VMem-fault};
 ghost use Rattle.vectors.specs.Laws.{VMem-fits, VMem-known, VMem-held};
-ghost use Rattle.std.proofs.Common.{rules};
 
 use crate::operands_of::VMemOperands;
 use bits::layout::Layout;
@@ -36,13 +34,9 @@ impl Format for VMem {
 
     ghost fault = { VMem-fault };
 
-    ghost allows = { λ v. true };
-
     ghost fits = { VMem-fits };
 
     ghost known = { VMem-known };
-
-    ghost allowed = { Prim.search rules };
 
     ghost held = { VMem-held };
 
@@ -68,13 +62,13 @@ impl Format for VMem {
         }
     }
 
-    fn make(v: &Values) -> Option<VMemOperands> {
-        Some(VMemOperands {
+    fn make(v: &Values) -> VMemOperands {
+        VMemOperands {
             opcode: v.opcode,
             vd: RegNum::of_bits(v.d),
             width: v.funct3,
             rs1: RegNum::of_bits(v.a),
             masking: VecOpMasking::of_bits(v.m),
-        })
+        }
     }
 }

@@ -1,5 +1,5 @@
 -- The laws of each format.
-use Rattle.std.proofs.Common.{◌≡◌, ℕ, true, None, refl, ap, lit<}
+use Rattle.std.proofs.Common.{◌≡◌, ℕ, None, refl, ap, lit<}
 use Rattle.bits.specs.declared.part.Values.{Values}
 use Rattle.bits.specs.declared.part.Field.TheVariants.{D, A, B, N, M, Opcode, Funct3, Funct}
 use Rattle.bits.specs.Layout.{Fit}
@@ -8,7 +8,7 @@ use Rattle.formats.specs.declared.kind.Kind.TheVariants as kind
 use Rattle.formats.specs.Layouts.{layout}
 use Rattle.formats.proofs.Codes.{narrow, none_wide, none_there}
 use Rattle.formats.proofs.Sound.{fit_of}
-use Rattle.formats.proofs.Made.{made, same_values}
+use Rattle.formats.proofs.Made.{same_values}
 use Rattle.wide.specs.declared.operands_of.IOperands.{IOperands}
 use Rattle.wide.specs.declared.operands_of.ROperands.{ROperands}
 use Rattle.wide.specs.declared.operands_of.SOperands.{SOperands}
@@ -22,9 +22,6 @@ I-fits o e =
     let c = narrow (I-codes o) e in
     fit_of (layout kind.I) (I-values o) o.rd.ok o.rs1.ok (lit< tt) (signed_lt o.imm) (lit< tt) c.0 c.1.0 (lit< tt)
 
-pub I-lawful : (o : IOperands) → Fit (layout kind.I) (I-values o) → I-fault o ≡ None
-I-lawful o f = none_wide (I-codes o) (f Opcode, (f Funct3, tt))
-
 pub I-known : (o p : IOperands) → I-values o ≡ I-values p → o ≡ p
 I-known o p e =
     let at : (f : Values → ℕ) → f (I-values o) ≡ f (I-values p) = λ f. ap f e in
@@ -36,10 +33,11 @@ I-known o p e =
       imm = same_signed o.imm p.imm (lit< tt) (at (λ v. v.n)) i;
     }
 
-pub I-held : (v : Values) → Fit (layout kind.I) v → true ≡ true → (o : IOperands) × ((I-fault o ≡ None) × (I-values o ≡ v))
-I-held v h t =
+pub I-held : (v : Values) → Fit (layout kind.I) v → (o : IOperands) × ((I-fault o ≡ None) × (I-values o ≡ v))
+I-held v h =
     let o : IOperands = record { opcode = v.opcode; rd = record { value = v.d; ok = h D }; funct3 = v.funct3; rs1 = record { value = v.a; ok = h A }; imm = signed_of 12 v.n (h N) } in
-    (o, made I-fault I-values (layout kind.I) I-lawful v h o (same_values refl refl (none_there v.b (h B)) (signed_of_bits 12 v.n (h N)) (none_there v.m (h M)) refl refl (none_there v.funct (h Funct))))
+    let lawful = none_wide (I-codes o) (h Opcode, (h Funct3, tt)) in
+    (o, (lawful, same_values refl refl (none_there v.b (h B)) (signed_of_bits 12 v.n (h N)) (none_there v.m (h M)) refl refl (none_there v.funct (h Funct))))
 
 -- ---- R
 
@@ -47,9 +45,6 @@ pub R-fits : (o : ROperands) → R-fault o ≡ None → Fit (layout kind.R) (R-v
 R-fits o e =
     let c = narrow (R-codes o) e in
     fit_of (layout kind.R) (R-values o) o.rd.ok o.rs1.ok o.rs2.ok (lit< tt) (lit< tt) c.0 c.1.0 c.1.1.0
-
-pub R-lawful : (o : ROperands) → Fit (layout kind.R) (R-values o) → R-fault o ≡ None
-R-lawful o f = none_wide (R-codes o) (f Opcode, (f Funct3, (f Funct, tt)))
 
 pub R-known : (o p : ROperands) → R-values o ≡ R-values p → o ≡ p
 R-known o p e =
@@ -63,10 +58,11 @@ R-known o p e =
       funct7 = at (λ v. v.funct) i;
     }
 
-pub R-held : (v : Values) → Fit (layout kind.R) v → true ≡ true → (o : ROperands) × ((R-fault o ≡ None) × (R-values o ≡ v))
-R-held v h t =
+pub R-held : (v : Values) → Fit (layout kind.R) v → (o : ROperands) × ((R-fault o ≡ None) × (R-values o ≡ v))
+R-held v h =
     let o : ROperands = record { opcode = v.opcode; rd = record { value = v.d; ok = h D }; funct3 = v.funct3; rs1 = record { value = v.a; ok = h A }; rs2 = record { value = v.b; ok = h B }; funct7 = v.funct } in
-    (o, made R-fault R-values (layout kind.R) R-lawful v h o (same_values refl refl refl (none_there v.n (h N)) (none_there v.m (h M)) refl refl refl))
+    let lawful = none_wide (R-codes o) (h Opcode, (h Funct3, (h Funct, tt))) in
+    (o, (lawful, same_values refl refl refl (none_there v.n (h N)) (none_there v.m (h M)) refl refl refl))
 
 -- ---- S
 
@@ -74,9 +70,6 @@ pub S-fits : (o : SOperands) → S-fault o ≡ None → Fit (layout kind.S) (S-v
 S-fits o e =
     let c = narrow (S-codes o) e in
     fit_of (layout kind.S) (S-values o) (lit< tt) o.rs1.ok o.rs2.ok (signed_lt o.imm) (lit< tt) c.0 c.1.0 (lit< tt)
-
-pub S-lawful : (o : SOperands) → Fit (layout kind.S) (S-values o) → S-fault o ≡ None
-S-lawful o f = none_wide (S-codes o) (f Opcode, (f Funct3, tt))
 
 pub S-known : (o p : SOperands) → S-values o ≡ S-values p → o ≡ p
 S-known o p e =
@@ -89,10 +82,11 @@ S-known o p e =
       imm = same_signed o.imm p.imm (lit< tt) (at (λ v. v.n)) i;
     }
 
-pub S-held : (v : Values) → Fit (layout kind.S) v → true ≡ true → (o : SOperands) × ((S-fault o ≡ None) × (S-values o ≡ v))
-S-held v h t =
+pub S-held : (v : Values) → Fit (layout kind.S) v → (o : SOperands) × ((S-fault o ≡ None) × (S-values o ≡ v))
+S-held v h =
     let o : SOperands = record { opcode = v.opcode; funct3 = v.funct3; rs1 = record { value = v.a; ok = h A }; rs2 = record { value = v.b; ok = h B }; imm = signed_of 12 v.n (h N) } in
-    (o, made S-fault S-values (layout kind.S) S-lawful v h o (same_values (none_there v.d (h D)) refl refl (signed_of_bits 12 v.n (h N)) (none_there v.m (h M)) refl refl (none_there v.funct (h Funct))))
+    let lawful = none_wide (S-codes o) (h Opcode, (h Funct3, tt)) in
+    (o, (lawful, same_values (none_there v.d (h D)) refl refl (signed_of_bits 12 v.n (h N)) (none_there v.m (h M)) refl refl (none_there v.funct (h Funct))))
 
 -- ---- U
 
@@ -100,9 +94,6 @@ pub U-fits : (o : UOperands) → U-fault o ≡ None → Fit (layout kind.U) (U-v
 U-fits o e =
     let c = narrow (U-codes o) e in
     fit_of (layout kind.U) (U-values o) o.rd.ok (lit< tt) (lit< tt) (signed_lt o.imm) (lit< tt) c.0 (lit< tt) (lit< tt)
-
-pub U-lawful : (o : UOperands) → Fit (layout kind.U) (U-values o) → U-fault o ≡ None
-U-lawful o f = none_wide (U-codes o) (f Opcode, tt)
 
 pub U-known : (o p : UOperands) → U-values o ≡ U-values p → o ≡ p
 U-known o p e =
@@ -113,7 +104,8 @@ U-known o p e =
       imm = same_signed o.imm p.imm (lit< tt) (at (λ v. v.n)) i;
     }
 
-pub U-held : (v : Values) → Fit (layout kind.U) v → true ≡ true → (o : UOperands) × ((U-fault o ≡ None) × (U-values o ≡ v))
-U-held v h t =
+pub U-held : (v : Values) → Fit (layout kind.U) v → (o : UOperands) × ((U-fault o ≡ None) × (U-values o ≡ v))
+U-held v h =
     let o : UOperands = record { opcode = v.opcode; rd = record { value = v.d; ok = h D }; imm = signed_of 20 v.n (h N) } in
-    (o, made U-fault U-values (layout kind.U) U-lawful v h o (same_values refl (none_there v.a (h A)) (none_there v.b (h B)) (signed_of_bits 20 v.n (h N)) (none_there v.m (h M)) refl (none_there v.funct3 (h Funct3)) (none_there v.funct (h Funct))))
+    let lawful = none_wide (U-codes o) (h Opcode, tt) in
+    (o, (lawful, same_values refl (none_there v.a (h A)) (none_there v.b (h B)) (signed_of_bits 20 v.n (h N)) (none_there v.m (h M)) refl (none_there v.funct3 (h Funct3)) (none_there v.funct (h Funct))))

@@ -1,9 +1,7 @@
 // bit 0 up: opcode 0-6 | rd 7-11 | funct3 12-14 | rs1 15-19 | imm[11:0] 20-31
-ghost use Rattle.std.specs.Prelude.{true};
 ghost use Rattle.formats.specs.declared.kind.Kind.TheVariants.{I as I-kind};
 ghost use Rattle.wide.specs.Operands.{I-values, I-fault};
 ghost use Rattle.wide.specs.Laws.{I-fits, I-known, I-held};
-ghost use Rattle.std.proofs.Common.{rules};
 
 use crate::operands_of::IOperands;
 use bits::layout::Layout;
@@ -32,13 +30,9 @@ impl Format for I {
 
     ghost fault = { I-fault };
 
-    ghost allows = { λ v. true };
-
     ghost fits = { I-fits };
 
     ghost known = { I-known };
-
-    ghost allowed = { Prim.search rules };
 
     ghost held = { I-held };
 
@@ -64,13 +58,13 @@ impl Format for I {
         }
     }
 
-    fn make(v: &Values) -> Option<IOperands> {
-        Some(IOperands {
+    fn make(v: &Values) -> IOperands {
+        IOperands {
             opcode: v.opcode,
             rd: RegNum::of_bits(v.d),
             funct3: v.funct3,
             rs1: RegNum::of_bits(v.a),
             imm: Imm12::of_bits(v.n),
-        })
+        }
     }
 }

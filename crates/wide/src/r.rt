@@ -1,9 +1,7 @@
 // bit 0 up: opcode 0-6 | rd 7-11 | funct3 12-14 | rs1 15-19 | rs2 20-24 | funct7 25-31
-ghost use Rattle.std.specs.Prelude.{true};
 ghost use Rattle.formats.specs.declared.kind.Kind.TheVariants.{R as R-kind};
 ghost use Rattle.wide.specs.Operands.{R-values, R-fault};
 ghost use Rattle.wide.specs.Laws.{R-fits, R-known, R-held};
-ghost use Rattle.std.proofs.Common.{rules};
 
 use crate::operands_of::ROperands;
 use bits::layout::Layout;
@@ -32,13 +30,9 @@ impl Format for R {
 
     ghost fault = { R-fault };
 
-    ghost allows = { λ v. true };
-
     ghost fits = { R-fits };
 
     ghost known = { R-known };
-
-    ghost allowed = { Prim.search rules };
 
     ghost held = { R-held };
 
@@ -65,14 +59,14 @@ impl Format for R {
         }
     }
 
-    fn make(v: &Values) -> Option<ROperands> {
-        Some(ROperands {
+    fn make(v: &Values) -> ROperands {
+        ROperands {
             opcode: v.opcode,
             rd: RegNum::of_bits(v.d),
             funct3: v.funct3,
             rs1: RegNum::of_bits(v.a),
             rs2: RegNum::of_bits(v.b),
             funct7: v.funct,
-        })
+        }
     }
 }

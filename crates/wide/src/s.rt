@@ -1,9 +1,7 @@
 // bit 0 up: opcode 0-6 | imm[4:0] 7-11 | funct3 12-14 | rs1 15-19 | rs2 20-24 | imm[11:5] 25-31
-ghost use Rattle.std.specs.Prelude.{true};
 ghost use Rattle.formats.specs.declared.kind.Kind.TheVariants.{S as S-kind};
 ghost use Rattle.wide.specs.Operands.{S-values, S-fault};
 ghost use Rattle.wide.specs.Laws.{S-fits, S-known, S-held};
-ghost use Rattle.std.proofs.Common.{rules};
 
 use crate::operands_of::SOperands;
 use bits::layout::Layout;
@@ -33,13 +31,9 @@ impl Format for S {
 
     ghost fault = { S-fault };
 
-    ghost allows = { λ v. true };
-
     ghost fits = { S-fits };
 
     ghost known = { S-known };
-
-    ghost allowed = { Prim.search rules };
 
     ghost held = { S-held };
 
@@ -65,13 +59,13 @@ impl Format for S {
         }
     }
 
-    fn make(v: &Values) -> Option<SOperands> {
-        Some(SOperands {
+    fn make(v: &Values) -> SOperands {
+        SOperands {
             opcode: v.opcode,
             funct3: v.funct3,
             rs1: RegNum::of_bits(v.a),
             rs2: RegNum::of_bits(v.b),
             imm: Imm12::of_bits(v.n),
-        })
+        }
     }
 }

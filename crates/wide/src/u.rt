@@ -1,9 +1,7 @@
 // bit 0 up: opcode 0-6 | rd 7-11 | imm[31:12] 12-31
-ghost use Rattle.std.specs.Prelude.{true};
 ghost use Rattle.formats.specs.declared.kind.Kind.TheVariants.{U as U-kind};
 ghost use Rattle.wide.specs.Operands.{U-values, U-fault};
 ghost use Rattle.wide.specs.Laws.{U-fits, U-known, U-held};
-ghost use Rattle.std.proofs.Common.{rules};
 
 use crate::operands_of::UOperands;
 use bits::layout::Layout;
@@ -30,13 +28,9 @@ impl Format for U {
 
     ghost fault = { U-fault };
 
-    ghost allows = { λ v. true };
-
     ghost fits = { U-fits };
 
     ghost known = { U-known };
-
-    ghost allowed = { Prim.search rules };
 
     ghost held = { U-held };
 
@@ -61,11 +55,11 @@ impl Format for U {
         }
     }
 
-    fn make(v: &Values) -> Option<UOperands> {
-        Some(UOperands {
+    fn make(v: &Values) -> UOperands {
+        UOperands {
             opcode: v.opcode,
             rd: RegNum::of_bits(v.d),
             imm: Imm20::of_bits(v.n),
-        })
+        }
     }
 }

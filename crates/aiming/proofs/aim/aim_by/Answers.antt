@@ -1,8 +1,8 @@
-use Rattle.std.proofs.Common.{◌≡◌, ℕ, true, ℤ, Some, None, Option, refl, ap, ◌∙◌, subst, w64, to_z, of_z, MatchOption}
+use Rattle.std.proofs.Common.{◌≡◌, ℕ, ℤ, Some, None, Option, refl, ap, ◌∙◌, subst, w64, to_z, of_z, MatchOption}
 use Rattle.std.proofs.lemmas.Int.{to_z-of_z}
 use Rattle.bits.specs.declared.part.Values.{Values}
 use Rattle.bits.specs.Layout.{word, Fit}
-use Rattle.operands.specs.Ranges.{InReach}
+use Rattle.operands.specs.Ranges.{Reach, halved}
 use Rattle.formats.specs.Layouts.{layout}
 use Rattle.formats.specs.Reaching.{with_n}
 use Rattle.aiming.proofs.aim.aim_by.Goals as goal
@@ -15,11 +15,11 @@ answered (Some y) P x t f = let p = f y refl in let e = t p in (p, cc)
 pub returns : goal.returns
 returns g c =
     let k = layout g.F.Format.kind in
-    let R = g.F.Reaching in
+    let W = g.row.WIDTH in
     let z = to_z w64 (of_z w64 c.args.d) in
-    let P : ℤ → Type 0 = λ z. (v : Values) → Fit k v → g.F.Format.allows v ≡ true → word k v ≡ c.args.w → MatchOption c.retarget.result (InReach R.least R.greatest z → ⊥) (λ x. InReach R.least R.greatest z × (x ≡ word k (with_n v (R.aim z)))) in
+    let P : ℤ → Type 0 = λ z. (v : Values) → Fit k v → word k v ≡ c.args.w → MatchOption c.retarget.result (Reach W z → ⊥) (λ x. Reach W z × (x ≡ word k (with_n v (halved W z)))) in
     subst P (to_z-of_z w64 c.args.d c.ranges.d)
-    (λ v fit a e. let o = g.met.F.Format.held v fit a in
-    answered c.retarget.result (InReach R.least R.greatest z) (word k (with_n v (R.aim z)))
-    (λ p. c.retarget.ensures.taken o.0 o.1.0 (ap (word k) o.1.1 ∙ e) p ∙ ap (λ u. Some (word k (with_n u (R.aim z)))) o.1.1)
+    (λ v fit e. let o = g.met.F.Format.held v fit in
+    answered c.retarget.result (Reach W z) (word k (with_n v (halved W z)))
+    (λ p. c.retarget.ensures.taken o.0 o.1.0 (ap (word k) o.1.1 ∙ e) p ∙ ap (λ u. Some (word k (with_n u (halved W z)))) o.1.1)
     (λ y q. (c.retarget.ensures.refused y q).0))

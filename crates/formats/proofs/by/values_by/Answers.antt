@@ -1,7 +1,6 @@
 use Rattle.std.proofs.Common.{sym, refl, ap, ◌∙◌, subst}
 use Rattle.bits.specs.Layout.{word, Fit}
 use Rattle.formats.specs.Layouts.{layout}
-use Rattle.formats.proofs.Reading.{none_some}
 use Rattle.formats.proofs.by.values_by.Goals as goal
 
 pub returns : goal.returns
@@ -13,4 +12,4 @@ returns g c =
 pub returns-in_err-o : goal.returns-in_err-o
 returns-in_err-o g c =
     rw c.from_residual.ensures
-    (λ v f a e. let o = g.met.F.Format.held v f a in none_some ⊥ o.0 (c.in_err-o.ensures.back o.0 o.1.0 (ap (word (layout g.F.Format.kind)) o.1.1 ∙ e)))
+    (λ v f e. let o = g.met.F.Format.held v f in let found = c.in_err-o.ensures.back o.0 o.1.0 (ap (word (layout g.F.Format.kind)) o.1.1 ∙ e) in cc)

@@ -8,17 +8,17 @@ use Rattle.instructions.proofs.raws.raw_of.Goals as goal
 passed : (test : ℤ → Bool) (z : ℤ) → SFits w64 z → test z ≡ true → test (to_z w64 (of_z w64 z)) ≡ true
 passed test z s t = ap test (to_z-of_z w64 z s) ∙ t
 
-pub raw_reg-requires : goal.raw_reg-requires
-raw_reg-requires c = passed (reg_ok c.args.form.now.form.d) c.args.f.now.d (search rules) (range_at c.args.form.now.form c.args.f.now c.requires 0)
+pub in_word-requires-clause-range : goal.in_word-requires-clause-range
+in_word-requires-clause-range c = passed (reg_ok c.args.form.now.form.d) c.args.f.now.d (search rules) (range_at c.args.form.now.form c.args.f.now c.requires 0)
 
-pub raw_reg-requires-2 : goal.raw_reg-requires-2
-raw_reg-requires-2 c = passed (reg_ok c.args.form.now.form.a) c.args.f.now.a (search rules) (range_at c.args.form.now.form c.args.f.now c.requires 1)
+pub in_word-requires-2-clause-range : goal.in_word-requires-2-clause-range
+in_word-requires-2-clause-range c = passed (reg_ok c.args.form.now.form.a) c.args.f.now.a (search rules) (range_at c.args.form.now.form c.args.f.now c.requires 1)
 
-pub raw_reg-requires-3 : goal.raw_reg-requires-3
-raw_reg-requires-3 c = passed (reg_ok c.args.form.now.form.b) c.args.f.now.b (search rules) (range_at c.args.form.now.form c.args.f.now c.requires 2)
+pub in_word-requires-3-clause-range : goal.in_word-requires-3-clause-range
+in_word-requires-3-clause-range c = passed (reg_ok c.args.form.now.form.b) c.args.f.now.b (search rules) (range_at c.args.form.now.form c.args.f.now c.requires 2)
 
-pub raw_number-requires : goal.raw_number-requires
-raw_number-requires c = passed (number_ok c.args.form.now.form.n) c.args.f.now.n (search rules) (range_at c.args.form.now.form c.args.f.now c.requires 3)
+pub in_word-requires-4-clause-range : goal.in_word-requires-4-clause-range
+in_word-requires-4-clause-range c = passed (number_ok c.args.form.now.form.n) c.args.f.now.n (search rules) (range_at c.args.form.now.form c.args.f.now c.requires 3)
 
-pub raw_mask-requires : goal.raw_mask-requires
-raw_mask-requires c = passed (mask_ok c.args.form.now.form.m) c.args.f.now.m (search rules) (range_at c.args.form.now.form c.args.f.now c.requires 4)
+pub in_word-requires-5-clause-range : goal.in_word-requires-5-clause-range
+in_word-requires-5-clause-range c = passed (mask_ok c.args.form.now.form.m) c.args.f.now.m (search rules) (range_at c.args.form.now.form c.args.f.now c.requires 4)

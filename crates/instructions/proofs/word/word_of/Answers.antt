@@ -31,4 +31,4 @@ word_for-requires c =
     let e = c.known_form-form.ensures.is ∙ ap (λ (o : Operation). form_at o.place) c.op.ensures in
     let l = lawful_here i r c.fields.result e c.fields.ensures in
     let fits = raw_fits r c.fields.result (agrees_here i r e) l in
-    record { at = subst₂ (λ k v. Fit (layout k) v) (sym c.kind.ensures) (sym c.raw_of-values.ensures) fits }
+    subst₂ (λ k v. Fit (layout k) v) (sym c.kind.ensures) (sym c.raw_of-values.ensures) fits

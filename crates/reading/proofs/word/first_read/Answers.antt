@@ -12,7 +12,7 @@ here : (P : ℕ → Type 0) (o : Option ℕ) (k : ℕ) → o ≡ Some k → IfSo
 here P o k e h = let q : IfSome (Some k) P = subst (λ o. IfSome o P) e h in q
 
 one : (o : Option ℕ) (k : ℕ) → option_map (λ y. y) o ≡ Some k → o ≡ Some k
-one None k e = absurd (let z : ◌≡◌ {A = ℕ} 0 1 = cc in omega arith)
+one None k e = grind (arith, e)
 one (Some j) k e = e
 
 pub returns : goal.returns
