@@ -1,5 +1,5 @@
 -- A jump at another distance.
-use Rattle.std.proofs.Common.{◌≡◌, ℕ, ◌<◌, true, false, cond, ℤ, Some, None, Option, sym, refl, ap, ◌∙◌, subst, MatchOption}
+use Rattle.std.proofs.Common.{◌≡◌, ℕ, ◌<◌, true, false, cond, ℤ, Some, None, Option, sym, ap, ◌∙◌, subst, MatchOption}
 use Rattle.std.proofs.lemmas.Bool.{false_from_ne_true}
 use Rattle.bits.specs.declared.part.Field.TheVariants.{N}
 use Rattle.bits.specs.declared.part.Values.{Values}

@@ -1,5 +1,7 @@
 -- The distance of a jump: an even number in reach, and its bits.
-use Rattle.std.proofs.Common.{◌≡◌, ℕ, suc, ◌-◌, ◌*◌, ◌/◌, ◌%◌, ◌^◌, ◌<◌, ◌≤◌, Bool, true, false, cond, ◌&&◌, eqb, Some, None, Option, ℤ, pos, negsuc, sym, refl, ap, ◌∙◌, subst, ap₂, mod-eq_of_lt, arith}
+use Rattle.std.proofs.Common.{◌≡◌, ℕ, zero, suc, ◌-◌, ◌*◌, ◌/◌, ◌%◌, ◌^◌, ◌<◌, ◌≤◌, Bool, true, false, cond, ◌&&◌, eqb, Some, None, Option, ℤ, pos, negsuc, sym, refl, ap, ◌∙◌, subst, ap₂, mod-eq_of_lt, arith}
+use Rattle.std.proofs.Math.Nat.{pow-succ'}
+use Rattle.std.proofs.Math.Pow.{pow_pos}
 use Rattle.std.specs.List.{list_all}
 use Rattle.std.proofs.lemmas.Bool.{eqb-true, and_parts}
 use Rattle.std.proofs.lemmas.Bool.Decides.{nat_tests}
@@ -93,6 +95,21 @@ module _ (k H : ℕ) (some : 0 < H) (half : 2 ^ (k - 1) ≡ H) (whole : 2 ^ k �
 
   distances : Distances (Some (Signed k 2 All)) (negsuc (2 * H - 1)) (pos (2 * H - 2)) (halved k)
   distances = record { near = in_reach; ok = in_range; bits = its_bits }
+
+power : (j : ℕ) → 2 ^ suc j ≡ 2 * 2 ^ j
+power j = pow-succ' 2 j
+
+some_power : (j : ℕ) → 0 < 2 ^ j
+some_power j = pow_pos j
+
+-- any width
+pub distances_of : (k : ℕ) → 0 < k → Distances (Some (Signed k 2 All)) (negsuc (2 ^ k - 1)) (pos (2 ^ k - 2)) (halved k)
+distances_of zero h = absurd (omega arith)
+distances_of (suc j) h =
+    let e : 2 ^ suc j ≡ 2 * 2 ^ j = power j in
+    let half : 2 ^ (suc j - 1) ≡ 2 ^ j = ap (λ n. 2 ^ n) (omega arith) in
+    let twice : 2 ^ suc (suc j) ≡ 4 * 2 ^ j = let f = power (suc j) in omega (arith, e, f) in
+    subst (λ n. Distances (Some (Signed (suc j) 2 All)) (negsuc (n - 1)) (pos (n - 2)) (halved (suc j))) (sym e) (distances (suc j) (2 ^ j) (some_power j) half e twice)
 
 -- the three formats
 pub distances_B : Distances (Some (Signed 12 2 All)) (negsuc 4095) (pos 4094) (halved 12)

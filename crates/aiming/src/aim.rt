@@ -1,13 +1,11 @@
 // The same jump at another distance.
-ghost use Rattle.std.specs.Prelude.{◌≡◌, ℕ, ◌<◌, true, Some, MatchOption};
-ghost use Rattle.bits.specs.declared.part.Values.{Values};
-ghost use Rattle.bits.specs.Layout.{word, Fit};
-ghost use Rattle.operands.specs.Ranges.{Reach, halved};
+ghost use Rattle.std.specs.Prelude.{◌≡◌, ℕ, ◌<◌, true, Some};
+ghost use Rattle.bits.specs.declared.part.Field.TheVariants.{N};
+ghost use Rattle.bits.specs.Layout.{span};
 ghost use Rattle.formats.specs.Layouts.{layout};
-ghost use Rattle.formats.specs.Reaching.{with_n};
 ghost use Rattle.operations.specs.Manual.{form_at, count};
 ghost use Rattle.instructions.specs.declared.fields.Fields.{Fields};
-ghost use Rattle.instructions.specs.Faults.{lawful};
+ghost use Rattle.instructions.specs.Faults.{lawful, reaches};
 ghost use Rattle.instructions.specs.Words.{word_of};
 ghost use Rattle.aiming.specs.Standing.{reaching_only, jump_at, aimed, worded, halfwords_found, listed_of};
 
@@ -19,14 +17,15 @@ use instructions::instruction::Instruction;
 use instructions::word::{Halfwords, word_of};
 use store::store::Store;
 
-// The word of fields of a reaching format, at the distance `d`: none where that is odd or out of reach.
+// The word of an instruction of a reaching format, at the distance `d`: none where that is odd or out of reach.
 fn aim_by<const WIDTH: u32, F: Reaching<WIDTH>>(w: u32, d: i64) -> Option<u32>
-    ensures { (v : Values) → Fit (layout F.Format.kind) v → word (layout F.Format.kind) v ≡ w → MatchOption result (Reach WIDTH d → ⊥) (λ x. Reach WIDTH d × (x ≡ word (layout F.Format.kind) (with_n v (halved WIDTH d)))) }
+    ensures { (k : ℕ) (f : Fields) → k < count → lawful (form_at k) f ≡ true → (form_at k).kind ≡ F.Format.kind → word_of (form_at k) f ≡ w → reaches F.Format.kind ≡ true → span (layout F.Format.kind) N ≡ WIDTH → result ≡ worded (aimed (reaching_only (Some (k, f))) d) }
 {
     retarget::<WIDTH, F>(w, d)
 }
 
 // The word of an instruction of that kind, at the distance `d`, if it is a jump that reaches so far.
+#[tactic(auto, using(crate::proofs::Aims::not_aimed))]
 fn aim_word(kind: Kind, w: u32, d: i64) -> Option<u32>
     ensures { (k : ℕ) (f : Fields) → k < count → lawful (form_at k) f ≡ true → (form_at k).kind ≡ kind → word_of (form_at k) f ≡ w → result ≡ worded (aimed (reaching_only (Some (k, f))) d) }
 {

@@ -1,3 +1,4 @@
+pub mod Shifts
 pub mod Layouts
 pub mod Walks
 pub mod Twos

@@ -24,12 +24,7 @@ impl<'a> Layout<'a> {
     pub fn join(&self, v: &Values) -> u32
         ensures { result ≡ word self.now.parts.now v.now }
     {
-        let mut bits = 0;
-        for part in self.parts.iter().rev() {
-            let width = width_of(*part);
-            bits = put(value_of(*part, v), bits, width, 32 - width);
-        }
-        bits
+        joined(self.parts, v)
     }
 
     // The field in the word `w`.
@@ -60,6 +55,19 @@ impl<'a> Layout<'a> {
             funct: self.pick(Field::Funct, w),
         }
     }
+}
+
+// The word of the fields, from its highest part down.
+fn joined(parts: &[Part], v: &Values) -> u32
+    requires { Handies parts.now }
+    ensures { result ≡ word parts.now v.now }
+{
+    let mut bits = 0;
+    for part in parts.iter().rev() {
+        let width = width_of(*part);
+        bits = put(value_of(*part, v), bits, width, 32 - width);
+    }
+    bits
 }
 
 fn field_value(field: Field, v: &Values) -> u32

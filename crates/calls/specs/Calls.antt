@@ -1,11 +1,9 @@
 -- What each call on an open program answers, over numbers and lists: those of counts, book and store in the call's own contract, those of the listing in a program's history. Assumes nothing.
 use Rattle.std.specs.Prelude.{ℕ, cond, List, length, ℤ, pos, negsuc, Some, None, Ok, Err, Option, Result, nat_lt}
-use Rattle.instructions.specs.declared.fields.BuildFault.TheVariants as fields
 use Rattle.aiming.specs.declared.faults.JumpFault.{JumpFault}
 use Rattle.aiming.specs.Jumps.{jump_fault, unaimed}
 use Rattle.records.specs.Records.{place_of}
 use Rattle.program.specs.declared.faults.EmitFault.{EmitFault}
-use Rattle.program.specs.declared.faults.EmitFault.TheVariants as emit
 use Rattle.program.specs.Calls.{spaced}
 use Rattle.program.specs.Calls as program
 use Rattle.items.specs.Items.{Item, words, jumps}
@@ -21,9 +19,9 @@ use Rattle.calls.specs.declared.jump.JumpTo.{JumpTo}
 
 -- ---- emit
 
--- an item that is no jump, by its halfwords
+-- an item
 abbrev pub emitted : ℕ → ℕ → Item → Result (Unit {0}) EmitFault
-emitted size used i = cond (jumps i) (Err (emit.Build fields.Jump)) (program.emitted size used (words i))
+emitted size used i = program.emitted size used (jumps i) (words i)
 
 -- ---- constant: so many slots there are
 

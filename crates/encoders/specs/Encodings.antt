@@ -5,7 +5,10 @@ use Rattle.bits.specs.declared.part.Part.{Part}
 use Rattle.bits.specs.declared.part.Part.TheVariants.{Fixed, Slice}
 use Rattle.bits.specs.declared.part.Values.{Values}
 use Rattle.bits.specs.Layout.{word}
+use Rattle.operands.specs.declared.masking.VecOpMasking.{VecOpMasking}
+use Rattle.operands.specs.Masks.{mask_bit}
 use Rattle.operands.specs.Ranges.{halved}
+use Rattle.operations.specs.declared.row.Form.{Form}
 use Rattle.formats.specs.declared.faults.WideCode.{WideCode}
 use Rattle.formats.specs.declared.kind.Kind.{Kind}
 use Rattle.formats.specs.declared.kind.Kind.TheVariants as kind
@@ -43,6 +46,10 @@ fields d a b n m oc f3 fu = record {
   funct3 = f3;
   funct = fu;
 }
+
+-- the fields of vector arithmetic, with the codes that the manuals give the operation
+abbrev pub arithmetic : Form → ℕ → ℕ → ℕ → ℕ → VecOpMasking → Values
+arithmetic f d a b n m = fields d a b n (mask_bit m) f.opcode f.funct3 f.funct
 
 -- a vector load or store: nf, mew, mop, vm, lumop or sumop, rs1, width, vd or vs3, opcode; here lumop or sumop is the field b,
 -- mop the field n and nf the field funct

@@ -4,12 +4,14 @@ ghost use Rattle.bits.specs.Layout.{word};
 ghost use Rattle.bits.specs.Twos.{twos};
 ghost use Rattle.operands.specs.Masks.{mask_bit};
 ghost use Rattle.operands.specs.Ranges.{halved};
-ghost use Rattle.formats.specs.declared.faults.WideCode.TheVariants.{Opcode, Funct3, Funct6, Funct7, Lumop, Mop, Nf};
+ghost use Rattle.formats.specs.declared.faults.WideCode.TheVariants.{Opcode, Funct3, Funct7, Lumop, Mop, Nf};
 ghost use Rattle.formats.specs.declared.kind.Kind.TheVariants as kinds;
 ghost use Rattle.formats.specs.Layouts.{layout, size};
 ghost use Rattle.formats.specs.Lawful.{check, first_wide};
 ghost use Rattle.args.specs.Codes.{space, width_code, CrOp-op, CrOp-funct4, CaOp-op, CaOp-funct2, CaOp-funct6, CjOp-op, CjOp-funct3, CiOp-op, CiOp-funct3, CiwOp-op, CiwOp-funct3, CbOp-op, CbOp-funct3, CbOp-funct2, CssOp-op, CssOp-funct3, CsOp-op, CsOp-funct3, ClOp-op, ClOp-funct3};
-ghost use Rattle.encoders.specs.Encodings.{answered, fields, unit_stride, jumped, sp_load, loaded, sp_store, store_kind, load_kind};
+ghost use Rattle.vector_operations.specs.Names.{VecAluOpRRR-name, VecAluOpRRRR-name, VecAluOpRRImm5-name, VecAluOpRRRImm5-name};
+ghost use Rattle.vector_operations.specs.Codes.{form_named};
+ghost use Rattle.encoders.specs.Encodings.{answered, fields, arithmetic, unit_stride, jumped, sp_load, loaded, sp_store, store_kind, load_kind};
 
 use crate::faults::EncodeFault;
 use args::{CaOp, CbOp, CiOp, CiwOp, CjOp, ClOp, CrOp, CsOp, CssOp, VecElementWidth};
@@ -27,6 +29,11 @@ use short::operands_of::{
     CaOperands, CbOperands, CiOperands, CiwOperands, Cr2Operands, CrOperands,
 };
 use stack::operands_of::{CiAddi16spOperands, CiLoadOperands, CssOperands};
+use vector_operations::rr_imm5::VecAluOpRRImm5;
+use vector_operations::rrr::VecAluOpRRR;
+use vector_operations::rrr_imm5::VecAluOpRRRImm5;
+use vector_operations::rrrr::VecAluOpRRRR;
+use vector_operations::vector::VecAluOp;
 use vectors::operands_of::{VImmOperands, VOperands};
 use wide::operands_of::{IOperands, ROperands, SOperands, UOperands};
 
@@ -37,13 +44,21 @@ fn wide_word<F: Format>(o: &F::Operands) -> Result<u32, EncodeFault>
     Ok(F::encode(o)?)
 }
 
+// The word of lawful operands.
+fn lawful_word<F: Format>(o: &F::Operands) -> u32
+    requires lawful { F.fault o.now ≡ None }
+    ensures { result ≡ word (layout F.kind) (F.values o.now) }
+{
+    F::encode(o).unwrap()
+}
+
 // The word of lawful operands in one halfword.
 fn short_word<F: Format>(o: &F::Operands) -> u16
     requires short { size F.kind ≡ 1 }
     requires lawful { F.fault o.now ≡ None }
     ensures { result ≡ word (layout F.kind) (F.values o.now) }
 {
-    F::encode(o).unwrap() as u16
+    lawful_word::<F>(o) as u16
 }
 
 pub fn encode_r_type(
@@ -143,23 +158,16 @@ pub fn encode_j_type(opcode: u32, rd: Reg, distance: JDistance) -> Result<u32, E
     })
 }
 
-// Vector arithmetic, by its codes.
-pub fn encode_valu_bits(
-    opcode: u32,
-    vd: Reg,
-    funct3: u32,
-    vs1: Reg,
-    vs2: Reg,
-    masking: VecOpMasking,
-    funct6: u32,
-) -> Result<u32, EncodeFault>
-    ensures { result ≡ answered (first_wide (check opcode 7 Opcode ∷ check funct3 3 Funct3 ∷ check funct6 6 Funct6 ∷ [])) (word (layout kinds.V) (fields vd.num.value vs1.num.value vs2.num.value 0 (mask_bit masking) opcode funct3 funct6)) }
+// The word of vector arithmetic on registers.
+fn valu_word<O: VecAluOp>(op: O, vd: Reg, vs1: Reg, vs2: Reg, masking: VecOpMasking) -> u32
+    ensures { result ≡ word (layout kinds.V) (arithmetic (form_named (O.name op)) vd.num.value vs1.num.value vs2.num.value 0 masking) }
 {
-    let (vs1, vs2) = (vs1.num, vs2.num);
-    wide_word::<vectors::v::V>(&VOperands {
-        opcode,
-        vd: vd.num,
-        funct3,
+    let (vd, vs1, vs2) = (vd.num, vs1.num, vs2.num);
+    let funct6 = op.funct6();
+    lawful_word::<vectors::v::V>(&VOperands {
+        opcode: op.opcode(),
+        vd,
+        funct3: op.funct3(),
         vs1,
         vs2,
         masking,
@@ -168,27 +176,58 @@ pub fn encode_valu_bits(
 }
 
 // The same with a constant in the place of vs1.
-pub fn encode_valu_imm_bits(
-    opcode: u32,
-    vd: Reg,
-    funct3: u32,
-    imm: Imm5,
-    vs2: Reg,
-    masking: VecOpMasking,
-    funct6: u32,
-) -> Result<u32, EncodeFault>
-    ensures { result ≡ answered (first_wide (check opcode 7 Opcode ∷ check funct3 3 Funct3 ∷ check funct6 6 Funct6 ∷ [])) (word (layout kinds.VImm) (fields vd.num.value 0 vs2.num.value (twos 5 imm.value) (mask_bit masking) opcode funct3 funct6)) }
+fn valu_imm_word<O: VecAluOp>(op: O, vd: Reg, imm: Imm5, vs2: Reg, masking: VecOpMasking) -> u32
+    ensures { result ≡ word (layout kinds.VImm) (arithmetic (form_named (O.name op)) vd.num.value 0 vs2.num.value (twos 5 imm.value) masking) }
 {
     let (vd, vs2) = (vd.num, vs2.num);
-    wide_word::<vectors::v_imm::VImm>(&VImmOperands {
-        opcode,
+    let funct6 = op.funct6();
+    lawful_word::<vectors::v_imm::VImm>(&VImmOperands {
+        opcode: op.opcode(),
         vd,
-        funct3,
+        funct3: op.funct3(),
         imm,
         vs2,
         masking,
         funct6,
     })
+}
+
+pub fn encode_valu(op: VecAluOpRRR, vd: Reg, vs1: Reg, vs2: Reg, masking: VecOpMasking) -> u32
+    ensures { result ≡ word (layout kinds.V) (arithmetic (form_named (VecAluOpRRR-name op)) vd.num.value vs1.num.value vs2.num.value 0 masking) }
+{
+    valu_word::<VecAluOpRRR>(op, vd, vs1, vs2, masking)
+}
+
+// Vector arithmetic with a constant in the place of vs1.
+pub fn encode_valu_rr_imm(
+    op: VecAluOpRRImm5,
+    vd: Reg,
+    imm: Imm5,
+    vs2: Reg,
+    masking: VecOpMasking,
+) -> u32
+    ensures { result ≡ word (layout kinds.VImm) (arithmetic (form_named (VecAluOpRRImm5-name op)) vd.num.value 0 vs2.num.value (twos 5 imm.value) masking) }
+{
+    valu_imm_word::<VecAluOpRRImm5>(op, vd, imm, vs2, masking)
+}
+
+// vs2 comes before vs1 here.
+pub fn encode_valu_rrrr(op: VecAluOpRRRR, vd: Reg, vs2: Reg, vs1: Reg, masking: VecOpMasking) -> u32
+    ensures { result ≡ word (layout kinds.V) (arithmetic (form_named (VecAluOpRRRR-name op)) vd.num.value vs1.num.value vs2.num.value 0 masking) }
+{
+    valu_word::<VecAluOpRRRR>(op, vd, vs1, vs2, masking)
+}
+
+pub fn encode_valu_rrr_imm(
+    op: VecAluOpRRRImm5,
+    vd: Reg,
+    imm: Imm5,
+    vs2: Reg,
+    masking: VecOpMasking,
+) -> u32
+    ensures { result ≡ word (layout kinds.VImm) (arithmetic (form_named (VecAluOpRRRImm5-name op)) vd.num.value 0 vs2.num.value (twos 5 imm.value) masking) }
+{
+    valu_imm_word::<VecAluOpRRRImm5>(op, vd, imm, vs2, masking)
 }
 
 pub fn encode_cr_type(op: CrOp, rd: Reg, rs2: Reg) -> u16

@@ -1,3 +1,4 @@
+pub mod Powers
 pub mod Sound
 pub mod Codes
 pub mod Made

@@ -1,7 +1,7 @@
 // The interface of a format: operands, a size, a word, a reading; and its law.
-ghost use Rattle.std.specs.Prelude.{◌≡◌, Some, None, Option};
+ghost use Rattle.std.specs.Prelude.{◌≡◌, Some, None, Option, true};
 ghost use Rattle.bits.specs.declared.part.Values.{Values};
-ghost use Rattle.bits.specs.Layout.{word, Fit};
+ghost use Rattle.bits.specs.Layout.{word, sound, Fit};
 ghost use Rattle.formats.specs.declared.kind.Kind.{Kind};
 ghost use Rattle.formats.specs.declared.faults.WideCode.{WideCode};
 ghost use Rattle.formats.specs.Layouts.{layout, size};
@@ -54,15 +54,12 @@ pub trait Format {
     }
 
     // the reading of a word: a word reads as lawful operands exactly when it is their word
+    #[tactic(auto, using(crate::proofs::Sound::layout_sound))]
     fn read(w: u32) -> Option<Self::Operands>
         ensures forth { (o : Self.Operands) → result ≡ Some o → (fault o ≡ None) × (word (layout kind) (values o) ≡ w) }
         ensures back { (o : Self.Operands) → fault o ≡ None → word (layout kind) (values o) ≡ w → result ≡ Some o }
     {
-        let layout = Self::layout();
-        let v = layout.picked(w);
-        if layout.join(&v) != w {
-            return None;
-        }
+        let v = fields_in(&Self::layout(), w)?;
         Some(Self::make(&v))
     }
 
@@ -71,4 +68,17 @@ pub trait Format {
     ghost known: { (o p : Self.Operands) → values o ≡ values p → o ≡ p };
 
     ghost held: { (v : Values) → Fit (layout kind) v → (o : Self.Operands) × ((fault o ≡ None) × (values o ≡ v)) };
+}
+
+// The fields whose word is `w`, by a layout in which each bit of a field stands once: none where no fields that fit have that word.
+fn fields_in(layout: &Layout<'_>, w: u32) -> Option<Values>
+    requires { sound layout.now.parts.now ≡ true }
+    ensures forth { (v : Values) → result ≡ Some v → Fit layout.now.parts.now v × (word layout.now.parts.now v ≡ w) }
+    ensures back { (v : Values) → Fit layout.now.parts.now v → word layout.now.parts.now v ≡ w → result ≡ Some v }
+{
+    let v = layout.picked(w);
+    if layout.join(&v) != w {
+        return None;
+    }
+    Some(v)
 }

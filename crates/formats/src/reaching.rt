@@ -27,7 +27,7 @@ pub trait Reaching<const WIDTH: u32>: Format {
     fn greatest_distance() -> i64
         ensures { result ≡ pos (2 ^ WIDTH - 2) }
     {
-        (1 << WIDTH) - 2
+        greatest_even::<WIDTH>()
     }
 
     fn distance(o: &Self::Operands) -> Distance<WIDTH>
@@ -54,6 +54,16 @@ pub trait Reaching<const WIDTH: u32>: Format {
     ghost told: { (o : Self.Operands) → (Self.Format.values o).n ≡ halved WIDTH (distance o).value };
 
     ghost kept: { (o p : Self.Operands) (x : ℕ) → Self.Format.fault o ≡ None → Self.Format.values p ≡ with_n (Self.Format.values o) x → Self.Format.fault p ≡ None };
+}
+
+// The greatest even number whose half has `WIDTH` bits in two's complement.
+#[tactic(auto, using(crate::proofs::Powers::less_two))]
+fn greatest_even<const WIDTH: u32>() -> i64
+    requires some { 0 < WIDTH }
+    requires small { WIDTH < 32 }
+    ensures { result ≡ pos (2 ^ WIDTH - 2) }
+{
+    (1 << WIDTH) - 2
 }
 
 // The word of lawful operands at the distance `d`.

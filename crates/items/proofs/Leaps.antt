@@ -1,17 +1,20 @@
 -- Jumps, where they stand and at another distance. Assumes nothing.
-use Rattle.std.proofs.Common.{◌≡◌, ℕ, ◌+◌, ◌*◌, ◌%◌, ◌≤◌, Bool, true, false, cond, eqb, ◌⊎◌, List, ◌++◌, length, get_or, take, ℤ, Some, None, Option, sym, refl, ap, ◌∙◌, inl, inr, arith}
+use Rattle.std.proofs.Common.{◌≡◌, ℕ, ◌+◌, ◌*◌, ◌%◌, ◌≤◌, Bool, true, false, cond, eqb, ◌⊎◌, List, ◌++◌, length, get_or, take, ℤ, Some, None, Option, IfSome, sym, refl, ap, ◌∙◌, inl, inr, arith}
 use Rattle.std.specs.List.{slice_get}
 use Rattle.std.proofs.lemmas.Option.{slice_get-get_or, slice_get_past as nth_past}
 use Rattle.std.proofs.lemmas.Bool.{cases_lt}
 use Rattle.store.specs.Puts.{applied, puts}
 use Rattle.operations.specs.Manual.{form_at}
-use Rattle.instructions.specs.Words.{word_of}
+use Rattle.instructions.specs.declared.instruction.Instruction.{Instruction}
+use Rattle.instructions.specs.Faults.{number_ok}
+use Rattle.instructions.specs.Words.{word_of, halfwords_of}
 use Rattle.instructions.proofs.Sizes.{low_bits_tell}
 use Rattle.reading.specs.Places.{begun, with_high}
+use Rattle.aiming.specs.Standing.{reaching_only, aimed as aimed_to, at_distance, halfwords_found, spelled, jump_at}
 use Rattle.aiming.proofs.Lawfuls.{aimed_lawful}
 use Rattle.reading.proofs.Takes.{nth_take, nth_take_past}
 use Rattle.aiming.proofs.Stands.{halfwords_length, jump_amid, jump_here, jump_apart, jump_put}
-use Rattle.items.specs.Items.{Item, Lawful, words, jumps, in_reach, aimed_at, distance_of, jump_standing}
+use Rattle.items.specs.Items.{Item, item_of, Lawful, words, jumps, in_reach, aimed_at, distance_of, aimed_words, jump_standing}
 use Rattle.items.specs.Laws.{JumpLaws}
 use Rattle.items.proofs.Items.{words_sized}
 
@@ -89,3 +92,21 @@ jump_laws = record {
   left = left;
   put = put;
 }
+
+-- what stands at a place is a jump
+pub jumps_there : (r : Option Instruction) (cells : List ℕ) (used p : ℕ) → spelled r ≡ jump_at cells used p → IfSome r (λ i. jumps (item_of i) ≡ true)
+unfolding jumps
+jumps_there None cells used p e = tt
+jumps_there (Some i) cells used p e = (jump_here cells used p i.op.place i.fields (sym e)).jumps
+
+found_if : (b : Bool) (i : Item) → halfwords_found (cond b (Some i) None) ≡ cond b (Some (halfwords_of i.0 i.1)) None
+found_if true i = refl
+found_if false i = refl
+
+-- a jump's halfwords at another distance
+pub aimed_jump : (i : Item) (z : ℤ) (r : Option (List ℕ)) → jumps i ≡ true → r ≡ halfwords_found (aimed_to (reaching_only (Some i)) z) → r ≡ aimed_words i z
+unfolding words jumps in_reach aimed_at
+aimed_jump i z r j e =
+    e
+    ∙ ap (λ b. halfwords_found (aimed_to (cond b (Some i) None) z)) j
+    ∙ found_if (number_ok (form_at i.0).n z) (i.0, at_distance i.1 z)

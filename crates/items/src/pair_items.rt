@@ -10,6 +10,7 @@ use pairs::pair::pair_of;
 use pairs::register::PairRegister;
 
 // The register of that number, 1 to 31.
+#[tactic(auto, unfolding(crate::specs::Pairs::register_ok))]
 pub fn register_of(d: i64) -> Option<PairRegister>
     ensures { MatchOption result (register_ok d ≡ false) (λ p. (register_ok d ≡ true) × (p.number ≡ d)) }
 {

@@ -8,6 +8,7 @@ use instructions::instruction::Instruction;
 use instructions::word::{Halfwords, halfwords_of};
 
 // The halfwords of an instruction.
+#[tactic(auto, unfolding(crate::specs::Items::words))]
 pub fn halves_of(i: &Instruction) -> Halfwords
     ensures { listed result ≡ words (item_of i.now) }
 {
@@ -15,6 +16,7 @@ pub fn halves_of(i: &Instruction) -> Halfwords
 }
 
 // Whether an instruction is a jump.
+#[tactic(auto, unfolding(crate::specs::Items::jumps))]
 pub fn is_jump(i: &Instruction) -> bool
     ensures { result ≡ jumps (item_of i.now) }
 {

@@ -1,3 +1,4 @@
 pub mod Numbers
 pub mod Names
 pub mod Lines
+pub mod Deeds

@@ -1,10 +1,12 @@
 // Why a line of a sheet is refused.
 ghost use Rattle.std.specs.Prelude.{◌≡◌};
-ghost use Rattle.lines.specs.declared.faults.LineFault.TheVariants.{NoNewline, Emit};
+ghost use Rattle.lines.specs.declared.faults.LineFault.TheVariants.{NoNewline, Emit, Constant, Jump, Bind, Seal};
 ghost use Rattle.lines.specs.Numbers.{refusal, sheet_refusal};
 
 use bits::part::Field;
+use calls::faults::{BindFault, ConstantFault, PlaceFault};
 use program::faults::EmitFault;
+use sealing::faults::SealFault;
 use text::lines::Unended;
 
 #[derive(Clone, Copy, PartialEq, Eq, Debug)]
@@ -19,8 +21,18 @@ pub enum LineFault {
     UnknownOperation,
     // that field is no number of signed 64 bits
     NoNumber(Field),
-    // the program did not take it
+    // that field is not used and has this value, not 0
+    Unused(Field, i64),
+    // the instruction is not emitted
     Emit(EmitFault),
+    // the constant is not made
+    Constant(ConstantFault),
+    // the jump is not placed
+    Jump(PlaceFault),
+    // the label is not bound
+    Bind(BindFault),
+    // the program is not sealed
+    Seal(SealFault),
 }
 
 impl From<EmitFault> for LineFault {
@@ -28,6 +40,38 @@ impl From<EmitFault> for LineFault {
 
     fn from(e: EmitFault) -> LineFault {
         LineFault::Emit(e)
+    }
+}
+
+impl From<ConstantFault> for LineFault {
+    ghost from_gives = { λ c l. l ≡ Constant c };
+
+    fn from(c: ConstantFault) -> LineFault {
+        LineFault::Constant(c)
+    }
+}
+
+impl From<PlaceFault> for LineFault {
+    ghost from_gives = { λ p l. l ≡ Jump p };
+
+    fn from(p: PlaceFault) -> LineFault {
+        LineFault::Jump(p)
+    }
+}
+
+impl From<BindFault> for LineFault {
+    ghost from_gives = { λ b l. l ≡ Bind b };
+
+    fn from(b: BindFault) -> LineFault {
+        LineFault::Bind(b)
+    }
+}
+
+impl From<SealFault> for LineFault {
+    ghost from_gives = { λ s l. l ≡ Seal s };
+
+    fn from(s: SealFault) -> LineFault {
+        LineFault::Seal(s)
     }
 }
 
@@ -48,7 +92,12 @@ impl LineFault {
             LineFault::Names => 16,
             LineFault::FieldCount(_) | LineFault::NoNewline => 17,
             LineFault::UnknownOperation | LineFault::NoNumber(_) => 18,
+            LineFault::Unused(_, _) => 3,
             LineFault::Emit(e) => e.number(),
+            LineFault::Constant(c) => c.number(),
+            LineFault::Jump(p) => p.number(),
+            LineFault::Bind(b) => b.number(),
+            LineFault::Seal(s) => s.number(),
         }
     }
 }

@@ -1,6 +1,7 @@
-//! The lines of a sheet: the names line, and a line's operation and fields.
+//! The lines of a sheet: the names line, and the call that a line gives.
 #![tactic(auto)]
 
 pub mod columns;
+pub mod deed;
 pub mod faults;
-pub mod line;
+mod numbers;

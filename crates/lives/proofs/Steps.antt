@@ -1,11 +1,10 @@
 -- One call more of a life: open, inside a try, and which calls a state does not take. Assumes nothing.
-use Rattle.std.proofs.Common.{◌≡◌, ℕ, ◌+◌, ◌<◌, ◌≤◌, ◌⊎◌, List, [], ◌∷◌, ◌++◌, map, length, get_or, take, set, ℤ, Ok, Err, sym, refl, ap, ◌∙◌, subst, inl, inr, take_all, Bor}
-use Rattle.std.proofs.lemmas.List.{take_more_set, map-set, get_or-map, set-get_or}
+use Rattle.std.proofs.Common.{◌≡◌, ℕ, ◌≤◌, ◌⊎◌, List, [], ◌∷◌, ◌++◌, map, length, take, ℤ, Ok, Err, sym, refl, ap, ◌∙◌, subst, inl, inr, take_all, Bor}
 use Rattle.store.specs.Answers.{when}
 use Rattle.store.specs.Puts.{applied}
 use Rattle.records.specs.declared.counts.Counts.{Counts}
 use Rattle.records.specs.declared.book.Book.{Book}
-use Rattle.records.specs.Records.{none}
+use Rattle.records.specs.Records.{none, jump_of, slot_of, labels_among}
 use Rattle.changing.specs.declared.edits.Edit.{Edit}
 use Rattle.lives.specs.declared.types.Deed.{Deed}
 use Rattle.lives.specs.declared.types.Answer.{Answer}
@@ -14,9 +13,9 @@ use Rattle.lives.specs.declared.types.Entry.{Entry}
 use Rattle.lives.specs.declared.types.Call.{Call}
 use Rattle.lives.specs.declared.types.Call.TheVariants.{Do, Try, Keep, GiveUp, Seal, Change, Value}
 use Rattle.lives.specs.Deeds.{Verdict, told, answered, counts_by, book_by, puts_by}
-use Rattle.lives.specs.Listing.{Listing, Stage, free, trying, closed, empty, judged, listed}
-use Rattle.lives.specs.Life.{Run, made, then, call_of}
-use Rattle.lives.specs.Tied.{OpenAt, TryAt, SealedAt}
+use Rattle.lives.specs.Listing.{Listing, Mode, Stage, free, trying, closed, empty, judged, listed}
+use Rattle.lives.specs.Life.{Run, made, then, Promise, EachNoted, Recorded, Lived}
+use Rattle.lives.specs.Tied.{Tied, OpenAt, TryAt, SealedAt}
 use Rattle.lives.proofs.Keeps.{due_is, deed_tied, deed_beyond, deed_before, deed_saved, deed_over, over_self, promised, bare}
 
 -- a fact of three things, at three equal to them
@@ -93,37 +92,7 @@ sealed_out x (inr (inr (inl e))) n L = ap (judged n (record { mode = closed; lis
 sealed_out x (inr (inr (inr (inl e)))) n L = ap (judged n (record { mode = closed; listing = L })) e
 sealed_out x (inr (inr (inr (inr e)))) n L = ap (judged n (record { mode = closed; listing = L })) e
 
--- ---- entries answered in order
-
-abbrev pub nothing : Entry
-nothing = record { call = Seal; answer = Taken }
-
--- an entry with its answer, its call as it was
-abbrev pub answering : List Entry → ℕ → Answer → Entry
-answering es k a = record { call = (get_or es k nothing).call; answer = a }
-
--- one entry more
-pub next : (P : List Entry → Type 0) (es : List Entry) (k : ℕ) {c : Call} (a : Answer) {es₁ : List Entry} → k < length es → (get_or es k nothing).call ≡ c → es₁ ≡ set es k (answering es k a) →
-    P (take k es ++ (entry c a ∷ [])) → P (take (k + 1) es₁)
-next P es k {c} a {es₁} h is e p =
-    subst (λ x. P (take (k + 1) x)) (sym e)
-    (subst P (sym (take_more_set es k (answering es k a) h))
-    (subst (λ x. P (take k es ++ (entry x a ∷ []))) (sym is) p))
-
-module _ {n : List ℕ} {c : Counts} {b : Book} {cells : List ℕ} (es : List Entry) (k : ℕ) {x : Call} (a : Answer) {es₁ : List Entry} (h : k < length es) (is : (get_or es k nothing).call ≡ x) (e : es₁ ≡ set es k (answering es k a)) where
-  pub next_open : OpenAt n (take k es ++ (entry x a ∷ [])) c b cells → OpenAt n (take (k + 1) es₁) c b cells
-  next_open p = next (λ y. OpenAt n y c b cells) es k a h is e p
-
-  pub next_try : {saved : Counts} → TryAt n (take k es ++ (entry x a ∷ [])) c saved b cells → TryAt n (take (k + 1) es₁) c saved b cells
-  next_try {saved} p = next (λ y. TryAt n y c saved b cells) es k a h is e p
-
-  pub next_sealed : {cells₁ : List ℕ} → cells₁ ≡ cells → SealedAt n (take k es ++ (entry x a ∷ [])) c b cells → SealedAt n (take (k + 1) es₁) c b cells₁
-  next_sealed ec p = subst (λ z. SealedAt n (take (k + 1) es₁) c b z) (sym ec) (next (λ y. SealedAt n y c b cells) es k a h is e p)
-
--- the calls stay as they were
-pub same_calls : (es : List Entry) (k : ℕ) (a : Answer) {es₁ : List Entry} → k < length es → es₁ ≡ set es k (answering es k a) → map call_of es₁ ≡ map call_of es
-same_calls es k a h e =
-    ap (map call_of) e ∙ map-set call_of es k (answering es k a) ∙ ap (λ x. set (map call_of es) k x) (sym (get_or-map call_of es k nothing nothing.call h)) ∙ set-get_or (map call_of es) k nothing.call
+-- ---- the making
 
 -- an open program with nothing listed, whatever store and book hold
 pub begun : {c : Counts} (b : Book) (cells : List ℕ) → c ≡ none → length b.labels ≡ 64 → length b.jumps ≡ 128 → length b.slots ≡ 32 → OpenAt cells [] c b cells
@@ -131,5 +100,31 @@ begun b cells e l j s =
     let t = bare b cells l j s in
     subst (λ x. OpenAt cells [] x b cells) (sym e) (empty, made (promised free t tt), t)
 
-pub ended : {n : List ℕ} (es : List Entry) (k : ℕ) {s : Stage} {cells : List ℕ} → length es ≤ k → Run n (take k es) s cells → (x : Stage) × Run n es x cells
-ended {n} es k {s} {cells} h r = (s, subst (λ x. Run n x s cells) (take_all k es h) r)
+-- ---- where a list ends
+
+whole_list : {n : List ℕ} (es : List Entry) (k : ℕ) {s : Stage} {cells : List ℕ} → length es ≤ k → Run n (take k es) s cells → Run n es s cells
+whole_list {n} es k {s} {cells} h r = subst (λ x. Run n x s cells) (take_all k es h) r
+
+-- a tie's records are the listing's
+recorded : {P : ℕ × ℕ → ℤ → Type 0} {n : ℕ} {L : Listing} {c : Counts} {b : Book} {cells : List ℕ} → (m : Mode) → Tied P n L c b cells → EachNoted m L b → Recorded (record { mode = m; listing = L }) b
+recorded {P} {n} {L} {c} {b} m t d =
+    record {
+      labels = ap (λ k. labels_among k b) (sym t.nlabels) ∙ t.labels;
+      jumps = ap (λ k. map jump_of (take k b.jumps)) (sym t.njumps) ∙ t.jumps;
+      slots = ap (λ k. map slot_of (take k b.slots)) (sym t.nslots) ∙ t.slots;
+      distances = d;
+    }
+
+pub open_ended : {n : List ℕ} (es : List Entry) (k : ℕ) {c : Counts} {b : Book} {cells : List ℕ} → length es ≤ k → OpenAt n (take k es) c b cells → Lived n es b cells c.used
+open_ended es k h o = (record { mode = free; listing = o.0 }, whole_list es k h o.1, promised free o.2 tt, recorded free o.2 tt, o.2.used, o.2.whole)
+
+pub try_ended : {n : List ℕ} (es : List Entry) (k : ℕ) {c saved : Counts} {b : Book} {cells : List ℕ} → length es ≤ k → TryAt n (take k es) c saved b cells → Lived n es b cells saved.used
+try_ended es k h o = (record { mode = trying o.1; listing = o.0 }, whole_list es k h o.2, promised free o.4 tt, recorded free o.4 tt, o.4.used, o.4.whole)
+
+-- the promise of the stage that is reached
+last_promise : {n : List ℕ} {es : List Entry} {s : Stage} {cells : List ℕ} → Run n es s cells → Promise s cells
+last_promise (made p) = p
+last_promise (then r c a e d x p) = p
+
+pub sealed_ended : {n : List ℕ} (es : List Entry) (k : ℕ) {c : Counts} {b : Book} {cells : List ℕ} → length es ≤ k → SealedAt n (take k es) c b cells → Lived n es b cells c.used
+sealed_ended es k h o = (record { mode = closed; listing = o.0 }, whole_list es k h o.1, last_promise o.1, recorded closed o.2 o.3, o.2.used, o.2.whole)

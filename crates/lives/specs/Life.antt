@@ -1,10 +1,13 @@
 -- What holds between any two calls of a life, and whole lives. Assumes nothing.
-use Rattle.std.specs.Prelude.{◌≡◌, ℕ, ◌+◌, ◌*◌, ◌<◌, ◌≤◌, ◌⊎◌, List, [], ◌∷◌, ◌++◌, map, length, take, drop, pos, ◌+ℤ◌, Some, None, Option, slice_index}
+use Rattle.std.specs.Prelude.{◌≡◌, ℕ, ◌+◌, ◌*◌, ◌<◌, ◌≤◌, ◌⊎◌, List, [], ◌∷◌, ◌++◌, map, length, take, drop, ℤ, pos, ◌+ℤ◌, Some, None, Option, slice_index}
 use Rattle.instructions.specs.declared.instruction.Instruction.{Instruction}
 use Rattle.reading.specs.Reading.{listing}
-use Rattle.records.specs.Records.{place_of}
+use Rattle.records.specs.declared.book.JumpRecord.{JumpRecord}
+use Rattle.records.specs.declared.book.Book.{Book}
+use Rattle.records.specs.Records.{place_of, jump_of, slot_of, labels_among}
 use Rattle.items.specs.Items.{Item, item_of, words, halfs, AllLawful, distance_of, jump_standing}
 use Rattle.items.specs.Pairs.{held_at}
+use Rattle.sealing.specs.Sealing.{distance_to}
 use Rattle.changing.specs.declared.edits.Edit.{Edit}
 use Rattle.changing.specs.Changing.{numbered}
 use Rattle.lives.specs.declared.types.Call.{Call}
@@ -12,7 +15,7 @@ use Rattle.lives.specs.declared.types.Call.TheVariants.{Do, Try, Keep, GiveUp, S
 use Rattle.lives.specs.declared.types.Answer.{Answer}
 use Rattle.lives.specs.declared.types.Answer.TheVariants.{Taken, Held, Refused, OutOfState}
 use Rattle.lives.specs.declared.types.Entry.{Entry}
-use Rattle.lives.specs.Listing.{Slot, Listing, Mode, free, trying, closed, Stage, end, start, item_at, judged, moved}
+use Rattle.lives.specs.Listing.{Slot, Listing, Mode, free, trying, closed, Stage, end, start, spot, item_at, judged, moved}
 
 -- an item's first halfword, or the end
 abbrev pub Starts : List Item → ℕ → Type 0
@@ -100,9 +103,33 @@ pub data Run (first : List ℕ) : List Entry → Stage → List ℕ → Type 0 w
       Alters s.listing c a before after → Promise (moved s c a) after →
       Run first (es ++ (record { call = c; answer = a } ∷ [])) (moved s c a) after
 
--- some stage is reached
-abbrev pub Lived : List ℕ → List Entry → List ℕ → Type 0
-Lived first es cells = (s : Stage) × Run first es s cells
+abbrev pub noted_distance : JumpRecord → ℤ
+noted_distance r = r.distance
+
+-- from a jump's place to where its label is bound
+abbrev pub due_distance : List (ℕ × ℕ) → ℕ × ℕ → ℤ
+due_distance ls j = distance_to j.0 (place_of ls j.1)
+
+-- once sealed, the record of each jump has the distance to its label
+abbrev pub EachNoted : Mode → Listing → Book → Type 0
+EachNoted free L b = Unit {0}
+EachNoted (trying S) L b = Unit {0}
+EachNoted closed L b = map noted_distance (take (length L.jumps) b.jumps) ≡ map (due_distance L.labels) L.jumps
+
+-- The records that count are the listing's, in its order; the others count for nothing.
+pub record Recorded (s : Stage) (b : Book) : Type 0 where
+  pub labels : labels_among (length s.listing.labels) b ≡ s.listing.labels
+  pub jumps : map jump_of (take (length s.listing.jumps) b.jumps) ≡ s.listing.jumps
+  pub slots : map slot_of (take (length s.listing.slots) b.slots) ≡ map spot s.listing.slots
+  pub distances : EachNoted s.mode s.listing b
+
+-- a try that the calls end in is given up
+abbrev pub given_up : Stage → Stage
+given_up s = elim s.mode [ free ↦ s | trying S ↦ record { mode = free; listing = S } | closed ↦ s ]
+
+-- some stage is reached; without the try that the calls may end in, its promise holds, its records are in the book, and so many halfwords are used; the store is as long as it was
+abbrev pub Lived : List ℕ → List Entry → Book → List ℕ → ℕ → Type 0
+Lived first es b cells used = (s : Stage) × Run first es s cells × Promise (given_up s) cells × Recorded (given_up s) b × (used ≡ end (given_up s).listing) × (length cells ≡ length first)
 
 abbrev pub call_of : Entry → Call
 call_of e = e.call

@@ -7,7 +7,7 @@ use Rattle.items.specs.Items.{Item, Lawful, words, halfs, jumps, distance_of, di
 use Rattle.items.specs.Pairs.{register_ok, makeable, upper, lower}
 use Rattle.lives.specs.declared.types.Entry.{Entry}
 use Rattle.lives.specs.Listing.{Listing, Slot, free, trying, closed, end, spot}
-use Rattle.lives.specs.Life.{Run, Starts}
+use Rattle.lives.specs.Life.{Run, Starts, EachNoted}
 
 -- Jumps and slots stand among the items, in their order, at their places, the items beginning at a place. What is asked of a jump's distance is a parameter.
 pub data Stands (P : ℕ × ℕ → ℤ → Type 0) : ℕ → List Item → List (ℕ × ℕ) → List Slot → Type 0 where
@@ -59,4 +59,16 @@ TryAt n es c saved b cells =
     (L : Listing) × (S : Listing) × Run n es (record { mode = trying S; listing = L }) cells × Tied Any (length n) L c b cells × Tied Any (length n) S saved b cells × Over saved c
 
 abbrev pub SealedAt : List ℕ → List Entry → Counts → Book → List ℕ → Type 0
-SealedAt n es c b cells = (L : Listing) × Run n es (record { mode = closed; listing = L }) cells × Tied (Aims L.labels) (length n) L c b cells
+SealedAt n es c b cells = (L : Listing) × Run n es (record { mode = closed; listing = L }) cells × Tied (Aims L.labels) (length n) L c b cells × EachNoted closed L b
+
+-- ---- a life that has come so far on that store, its program with those counts and that book
+
+unfoldable pub OpenLife : List ℕ → List Entry → Counts → Book → List ℕ → Type 0
+OpenLife first es c b cells = OpenAt first es c b cells
+
+-- inside a try, with the counts saved
+unfoldable pub TryLife : List ℕ → List Entry → Counts → Counts → Book → List ℕ → Type 0
+TryLife first es c saved b cells = TryAt first es c saved b cells
+
+unfoldable pub SealedLife : List ℕ → List Entry → Counts → Book → List ℕ → Type 0
+SealedLife first es c b cells = SealedAt first es c b cells

@@ -1,4 +1,7 @@
 // The calls of a life, and their answers.
+ghost use Rattle.std.specs.Prelude.{◌≡◌};
+ghost use Rattle.lives.specs.Numbers.{refusal};
+
 use calls::faults::{BindFault, ConstantFault, PlaceFault};
 use calls::jump::JumpTo;
 use changing::edits::Edit;
@@ -44,6 +47,23 @@ pub enum Fault {
     Seal(SealFault),
     Change(ChangeFault),
     Value(ValueFault),
+}
+
+impl Fault {
+    // The number of the refusal. Stays a number: callers are told it, as docs/REFUSALS.md lists it.
+    pub fn number(&self) -> u8
+        ensures { result ≡ refusal self.now }
+    {
+        match self {
+            Fault::Emit(e) => e.number(),
+            Fault::Constant(e) => e.number(),
+            Fault::Jump(e) => e.number(),
+            Fault::Bind(e) => e.number(),
+            Fault::Seal(e) => e.number(),
+            Fault::Change(e) => e.number(),
+            Fault::Value(e) => e.number(),
+        }
+    }
 }
 
 // Stays an enum of four: a taken call and a told value, a refusal and a call out of state are no two sides of a Result.

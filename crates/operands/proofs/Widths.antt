@@ -1,5 +1,5 @@
 -- Ranges and bits at any width.
-use Rattle.std.proofs.Common.{◌≡◌, ℕ, zero, suc, ◌+◌, ◌-◌, ◌*◌, ◌%◌, ◌^◌, ◌<◌, ℤ, pos, negsuc, ◌*ℤ◌, sym, ap, ◌∙◌, subst, arith, pow_pos, pow_mono}
+use Rattle.std.proofs.Common.{◌≡◌, ℕ, zero, suc, ◌+◌, ◌-◌, ◌*◌, ◌%◌, ◌^◌, ◌<◌, ◌≤◌, ℤ, pos, negsuc, ◌*ℤ◌, ◌≤ℤ◌, sym, ap, ◌∙◌, subst, arith, pow_pos, pow_mono}
 use lib.Signed.{mag}
 use Rattle.std.proofs.lemmas.Bool.Decides.{nat_tests}
 use Rattle.std.proofs.lemmas.Int.{ints}
@@ -23,6 +23,16 @@ near_within zero (pos n) h = grind (arith, nat_tests, ints)
 near_within zero (negsuc n) h = grind (arith, nat_tests, ints)
 near_within (suc k) (pos n) h = let p = pow_pos (suc k - 1) in let e = doubled k in grind (arith, nat_tests, ints)
 near_within (suc k) (negsuc n) h = let p = pow_pos (suc k - 1) in let e = doubled k in grind (arith, nat_tests, ints)
+
+pub near_low : (k : ℕ) (z : ℤ) → 2 * mag z < 2 ^ k → negsuc (2 ^ (k - 1) - 1) ≤ℤ z
+near_low k z h = (near_within k z (omega arith)).0
+
+pub near_high : (k : ℕ) (z : ℤ) → 2 * mag z < 2 ^ k → z ≤ℤ pos (2 ^ (k - 1) - 1)
+near_high k z h = (near_within k z (omega arith)).1
+
+-- past 63 bits
+pub beyond : (k : ℕ) → 63 < k → 18446744073709551616 ≤ 2 ^ k
+beyond k h = pow_mono {i = 64} {j = k} h
 
 pub within : (k n : ℕ) → n < 2 ^ k → Within k (signed k n)
 within zero n h = grind (arith, nat_tests, ints)

@@ -240,6 +240,14 @@ impl From<u8> for Uimm8 {
     }
 }
 
+impl From<Uimm8> for u8 {
+    ghost from_gives = { λ i n. n ≡ i.value };
+
+    fn from(byte: Uimm8) -> u8 {
+        byte.value as u8
+    }
+}
+
 impl<const WIDTH: u32> Unsigned<WIDTH> {
     pub fn maybe_from_u8(value: u8) -> Option<Unsigned<WIDTH>>
         ensures { MatchOption result (2 ^ WIDTH ≤ value) (λ i. i.value ≡ value) }
@@ -277,7 +285,7 @@ impl UImm5 {
         ensures is { result ≡ self.now.value }
         ensures narrow { result < 2 ^ 5 }
     {
-        self.value
+        u32::from(*self)
     }
 }
 
@@ -301,6 +309,6 @@ impl Uimm8 {
         ensures is { result ≡ self.now.value }
         ensures narrow { result < 2 ^ 8 }
     {
-        self.value as u8
+        u8::from(*self)
     }
 }

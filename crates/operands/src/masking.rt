@@ -1,6 +1,6 @@
 // Whether a vector operation is masked, by v0.
 ghost use Rattle.std.specs.Prelude.{◌≡◌, ◌<◌};
-ghost use Rattle.operands.specs.Masks.{mask_bit};
+ghost use Rattle.operands.specs.Masks.{mask_bit, masked};
 
 #[derive(Clone, Copy, PartialEq, Eq, Debug)]
 pub enum VecOpMasking {
@@ -21,6 +21,12 @@ impl From<VecOpMasking> for u32 {
 }
 
 impl VecOpMasking {
+    pub fn is_enabled(&self) -> bool
+        ensures { result ≡ masked self.now }
+    {
+        matches!(self, VecOpMasking::Enabled)
+    }
+
     // Bit 25 of the word.
     pub fn encode(&self) -> u32
         ensures is { result ≡ mask_bit self.now }

@@ -1,5 +1,5 @@
 // Which numbers a width holds, and the bits that write them.
-ghost use Rattle.std.specs.Prelude.{◌≡◌, ◌^◌, ◌<◌, ◌↔◌, IsTrue};
+ghost use Rattle.std.specs.Prelude.{◌≡◌, ◌*◌, ◌^◌, ◌<◌, ◌↔◌, IsTrue};
 ghost use Rattle.std.specs.Int.Signed.{mag};
 ghost use Rattle.bits.specs.Twos.{twos};
 ghost use Rattle.operands.specs.Ranges.{Within, Reach, halved};
@@ -28,11 +28,21 @@ pub fn fits(width: u32, value: u32) -> bool
     width > 31 || value < 1 << width
 }
 
+// Whether `width` bits hold twice the number.
+#[tactic(auto, using(crate::proofs::Widths::beyond))]
+fn fits_twice(width: u32, n: u64) -> bool
+    requires { n < 2 ^ 63 }
+    ensures { IsTrue result ↔ (2 * n < 2 ^ width) }
+{
+    width > 63 || 2 * n < 1 << width
+}
+
 // Whether two's complement of `width` bits holds the number.
+#[tactic(auto, using(crate::proofs::Widths::near_low, crate::proofs::Widths::near_high, crate::proofs::Widths::near))]
 pub fn holds(width: u32, value: i64) -> bool
     ensures { IsTrue result ↔ Within width value }
 {
-    width > 63 || 2 * magnitude(value) < 1 << width
+    fits_twice(width, magnitude(value))
 }
 
 // Whether the number is even and its half is one of `width` bits.

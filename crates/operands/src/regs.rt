@@ -170,8 +170,8 @@ pub fn reg_to_gpr_num(m: Reg) -> u32
 }
 
 // The three bits that name the register, which is one of 8 to 15.
-pub fn reg_to_compressed_gpr_num(m: ShortReg) -> u32
-    ensures { result ≡ m.num.value }
+pub fn reg_to_compressed_gpr_num(short: ShortReg) -> u32
+    ensures { result ≡ short.num.value }
 {
-    m.num.value()
+    short.num.value()
 }

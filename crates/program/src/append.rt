@@ -3,10 +3,14 @@ ghost use Rattle.std.specs.Prelude.{◌≡◌, [], length};
 ghost use Rattle.store.specs.Answers.{when};
 ghost use Rattle.store.specs.Puts.{applied, puts};
 ghost use Rattle.records.specs.Records.{more_used};
+ghost use Rattle.operations.specs.Manual.{form_at};
+ghost use Rattle.instructions.specs.Faults.{reaches};
 ghost use Rattle.instructions.specs.Words.{halfwords_in};
-ghost use Rattle.program.specs.Calls.{spaced, no_room};
+ghost use Rattle.program.specs.Calls.{spaced, no_room, emitted};
 
-use crate::faults::NoRoom;
+use crate::faults::{EmitFault, NoRoom};
+use instructions::build::known_form;
+use instructions::fields::BuildFault;
 use instructions::instruction::Instruction;
 use instructions::word::{Halfwords, halfwords_of};
 use records::counts::Counts;
@@ -42,4 +46,21 @@ pub fn append_word<S: Store>(
         Halfwords::One(a) => append(counts, store, &[a]),
         Halfwords::Two(a, b) => append(counts, store, &[a, b]),
     }
+}
+
+// The same for an instruction that is no jump.
+pub fn append_plain<S: Store>(
+    counts: &mut Counts,
+    store: &mut S,
+    i: &Instruction,
+) -> Result<(), EmitFault>
+    ensures answer { result ≡ emitted (length (S.halfwords store.old)) counts.old.used (reaches (form_at i.now.op.place).kind) (halfwords_in i.now) }
+    ensures counts { counts.new ≡ when result (more_used counts.old (length (halfwords_in i.now))) counts.old }
+    ensures after { S.halfwords store.new ≡ applied (when result (puts counts.old.used (halfwords_in i.now)) []) (S.halfwords store.old) }
+{
+    if known_form(i.op()).is_jump() {
+        return Err(EmitFault::Build(BuildFault::Jump));
+    }
+    append_word(counts, store, i)?;
+    Ok(())
 }

@@ -3,4 +3,3 @@
 
 pub mod append;
 pub mod faults;
-pub mod open;

@@ -3,3 +3,4 @@ pub mod Apart
 pub mod Tell
 pub mod Steps
 pub mod Takes
+pub mod Grouped

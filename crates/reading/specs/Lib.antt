@@ -2,3 +2,4 @@ pub mod Fields
 pub mod Reading
 pub mod Numbers
 pub mod Places
+pub mod Groups

@@ -3,6 +3,7 @@
 
 pub mod faults;
 pub mod fields;
+mod groups;
 pub mod laws;
 pub mod read;
 pub mod word;

@@ -62,7 +62,7 @@ impl Book {
         first_of(&self.labels, counts.labels)
     }
 
-    // The jumps that count, read when a program is sealed; no code calls it yet.
+    // The jumps that count.
     pub fn jumps(&self, counts: Counts) -> &[JumpRecord]
         ensures { result.now ≡ take counts.jumps self.now.jumps }
     {
@@ -78,7 +78,7 @@ impl Book {
 }
 
 // The first `count` records of a row, or all of them where there are fewer.
-fn first_of<T>(row: &[T], count: usize) -> &[T]
+pub fn first_of<T>(row: &[T], count: usize) -> &[T]
     ensures { result.now ≡ take count row.now }
 {
     row.get(..count).unwrap_or(row)

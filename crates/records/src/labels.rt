@@ -13,8 +13,10 @@ fn record_of(labels: &[LabelRecord], label: usize) -> Option<LabelRecord>
 }
 
 // Where a label is bound.
+#[tactic(auto, using(crate::proofs::Rows::place_found, crate::proofs::Rows::place_missing))]
 pub fn place_of(labels: &[LabelRecord], label: usize) -> Option<u32>
     ensures { result ≡ place_of (map label_of labels.now) label }
 {
-    record_of(labels, label).map(|entry| entry.place)
+    let entry = record_of(labels, label)?;
+    Some(entry.place)
 }

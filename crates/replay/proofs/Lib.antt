@@ -1,3 +1,4 @@
 pub mod Names
 pub mod Tallies
 pub mod Operands
+pub mod Pairs

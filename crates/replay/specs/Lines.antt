@@ -1,5 +1,5 @@
--- Whether the word at the end of a line is what the encoder answers to the operands before it.
-use Rattle.std.specs.Prelude.{ℕ, ◌-◌, Bool, false, List, [], ◌∷◌, length, Ok, Err, codes, Option}
+-- Whether what a line tells is the answer here: the word of an encoder, to the operands before it, or what holds of a constant or an operation.
+use Rattle.std.specs.Prelude.{ℕ, ◌-◌, Bool, false, ◌||◌, List, [], ◌∷◌, length, Ok, Err, codes, Option}
 use Rattle.std.specs.Option.{option_map, unwrap_or}
 use Rattle.std.specs.Str.{bytes_eq}
 use Rattle.text.specs.Fields.{fields}
@@ -9,7 +9,9 @@ use Rattle.replay.specs.declared.encoder.Encoder.{Encoder}
 use Rattle.replay.specs.declared.encoder.Encoder.TheVariants.{RType, IType, SType, Valu, ValuRrrr, ValuRrImm, ValuRrrImm, VmemLoad, VmemStore, CrType, Cr2Type, CaType, CjType, CiType, CiSpLoad, CAddi16sp, CiwType, CbType, CssType, CsType, ClType}
 use Rattle.replay.specs.Operands.{text_at}
 use Rattle.replay.specs.Names.{named_at}
-use Rattle.replay.specs.Words.{Answer, r_type, i_type, s_type, valu, valu_imm, vmem, cr_type, cr2_type, ca_type, cj_type, ci_type, ci_sp_load, c_addi16sp, ciw_type, cb_type, css_type, cs_type, cl_type}
+use Rattle.replay.specs.Rules.{told_of}
+use Rattle.replay.specs.Constants.{constructed, paired}
+use Rattle.replay.specs.Words.{Answer, r_type, i_type, s_type, valu, valu_rrrr, valu_rr_imm, valu_rrr_imm, vmem, cr_type, cr2_type, ca_type, cj_type, ci_type, ci_sp_load, c_addi16sp, ciw_type, cb_type, css_type, cs_type, cl_type}
 
 -- the encoders by name
 abbrev pub encoders : List (List ℕ × Encoder)
@@ -41,10 +43,10 @@ abbrev pub answer_by : Encoder → List ℕ → Option Answer
 answer_by RType t = r_type t
 answer_by IType t = i_type t
 answer_by SType t = s_type t
-answer_by Valu t = valu t 3 4
-answer_by ValuRrrr t = valu t 4 3
-answer_by ValuRrImm t = valu_imm t
-answer_by ValuRrrImm t = valu_imm t
+answer_by Valu t = valu t
+answer_by ValuRrrr t = valu_rrrr t
+answer_by ValuRrImm t = valu_rr_imm t
+answer_by ValuRrrImm t = valu_rrr_imm t
 answer_by VmemLoad t = vmem t
 answer_by VmemStore t = vmem t
 answer_by CrType t = cr_type t
@@ -69,6 +71,10 @@ abbrev pub written : Answer → List ℕ
 written (Ok w) = hex_of w
 written (Err e) = codes "panic"
 
--- the last field is the answer
+-- the last field is the answer of the encoder
+abbrev pub encoded : List ℕ → Option Bool
+encoded t = found (answer_of t) (λ a. option_map (λ w. bytes_eq w (written a)) (text_at t (length (fields t) - 1)))
+
+-- what the line tells is the answer, of an encoder, a constructor, generate_imm or an operation
 abbrev pub agrees_of : List ℕ → Bool
-agrees_of t = unwrap_or (found (answer_of t) (λ a. option_map (λ w. bytes_eq w (written a)) (text_at t (length (fields t) - 1)))) false
+agrees_of t = unwrap_or (encoded t) false || (unwrap_or (constructed t) false || (unwrap_or (paired t) false || unwrap_or (told_of t) false))

@@ -23,9 +23,6 @@ use Rattle.args.specs.declared.ClOp.{ClOp}
 use Rattle.args.specs.declared.ClOp.TheVariants as cl-op-variant
 use Rattle.args.specs.declared.VecElementWidth.{VecElementWidth}
 use Rattle.args.specs.declared.VecElementWidth.TheVariants as width-variant
-use Rattle.operations.specs.declared.row.Form.{Form}
-use Rattle.operations.specs.Manual.{operations, form_at as form_in}
-use Rattle.operations.specs.Names.{named}
 use Rattle.text.specs.Fields.{text_of}
 use Rattle.replay.specs.Operands.{operand_at}
 
@@ -66,10 +63,3 @@ widths = (codes "E8", width-variant.E8) ∷ (codes "E16", width-variant.E16) ∷
 -- what the name in a field stands for
 abbrev pub named_at : {A : Type 0} → List ℕ → ℕ → List (List ℕ × A) → Option A
 named_at line k names = operand_at line k (λ p. meant names (text_of p))
-
--- what the table says of the operation that a text names
-abbrev pub form_of : List ℕ → Option Form
-form_of t = option_map form_in (named operations t)
-
-abbrev pub form_at : List ℕ → ℕ → Option Form
-form_at line k = operand_at line k (λ p. form_of (text_of p))

@@ -43,6 +43,10 @@ natural_at line k limit = operand_at line k (counted (natural limit))
 abbrev pub integer_at : List ℕ → ℕ → ℕ → Option ℤ
 integer_at line k limit = operand_at line k (counted (within limit))
 
+-- any number of signed 64 bits
+abbrev pub number_at : List ℕ → ℕ → Option ℤ
+number_at line k = operand_at line k (counted (λ z. Some z))
+
 -- a plain field
 abbrev pub code_at : List ℕ → ℕ → Option ℕ
 code_at line k = natural_at line k (2 ^ 32)

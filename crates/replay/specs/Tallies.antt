@@ -1,4 +1,4 @@
--- How many lines of a text there are, and at how many of them the word is what the encoder answers.
+-- How many lines of a text there are, and how many of them tell the answer here.
 use Rattle.std.specs.Prelude.{ℕ, ◌+◌, cond, List, [], ◌∷◌}
 use Rattle.text.specs.Lines.{Line, ended, unended}
 use Rattle.replay.specs.Lines.{agrees_of}

@@ -4,17 +4,20 @@ use Rattle.text.specs.Found.{found}
 use Rattle.bits.specs.Layout.{word}
 use Rattle.bits.specs.Twos.{twos}
 use Rattle.operands.specs.Masks.{mask_bit}
-use Rattle.formats.specs.declared.faults.WideCode.TheVariants.{Opcode, Funct3, Funct6, Funct7, Lumop, Mop, Nf}
+use Rattle.formats.specs.declared.faults.WideCode.TheVariants.{Opcode, Funct3, Funct7, Lumop, Mop, Nf}
 use Rattle.formats.specs.declared.kind.Kind.TheVariants as kinds
 use Rattle.formats.specs.Layouts.{layout}
 use Rattle.formats.specs.Lawful.{check, first_wide}
 use Rattle.args.specs.Codes.{space, width_code, CrOp-op, CrOp-funct4, CaOp-op, CaOp-funct2, CaOp-funct6, CjOp-op, CjOp-funct3, CiOp-op, CiOp-funct3, CiwOp-op, CiwOp-funct3, CbOp-op, CbOp-funct3, CbOp-funct2, CssOp-op, CssOp-funct3, CsOp-op, CsOp-funct3, ClOp-op, ClOp-funct3}
 use Rattle.encoders.specs.declared.faults.EncodeFault.{EncodeFault}
-use Rattle.encoders.specs.Encodings.{answered, fields, unit_stride, jumped, sp_load, loaded, sp_store, store_kind, load_kind}
+use Rattle.vector_operations.specs.Names.{VecAluOpRRR-name, VecAluOpRRRR-name, VecAluOpRRImm5-name, VecAluOpRRRImm5-name}
+use Rattle.vector_operations.specs.Codes.{form_named}
+use Rattle.encoders.specs.Encodings.{answered, fields, arithmetic, unit_stride, jumped, sp_load, loaded, sp_store, store_kind, load_kind}
 use Rattle.text.specs.declared.words.Word.{Word}
 use Rattle.text.specs.declared.words.Word.TheVariants.{Wide, Short}
 use Rattle.replay.specs.Operands.{natural_at, integer_at, code_at, reg_at, short_at, masking_at}
-use Rattle.replay.specs.Names.{named_at, form_at, cr_ops, ca_ops, cj_ops, ci_ops, ciw_ops, cb_ops, css_ops, cs_ops, cl_ops, widths}
+use Rattle.replay.specs.VectorNames.{rrr_ops, rrrr_ops, rr_imm5_ops, rrr_imm5_ops}
+use Rattle.replay.specs.Names.{named_at, cr_ops, ca_ops, cj_ops, ci_ops, ciw_ops, cb_ops, css_ops, cs_ops, cl_ops, widths}
 
 -- a word, or why there is none
 abbrev pub Answer : Type 0
@@ -57,24 +60,42 @@ s_type t =
 
 -- ---- vectors
 
--- vector arithmetic: vs1 in one field and vs2 in another
-abbrev pub valu : List ℕ → ℕ → ℕ → Option Answer
-valu t first second =
-    found (form_at t 1) (λ f.
+abbrev pub valu : List ℕ → Option Answer
+valu t =
+    found (named_at t 1 rrr_ops) (λ op.
     found (reg_at t 2) (λ vd.
-    found (reg_at t first) (λ vs1.
-    found (reg_at t second) (λ vs2.
+    found (reg_at t 3) (λ vs1.
+    found (reg_at t 4) (λ vs2.
     found (masking_at t 5) (λ m.
-    Some (among Wide (answered (first_wide (check f.opcode 7 Opcode ∷ check f.funct3 3 Funct3 ∷ check f.funct 6 Funct6 ∷ [])) (word (layout kinds.V) (fields vd vs1 vs2 0 (mask_bit m) f.opcode f.funct3 f.funct)))))))))
+    Some (Ok (Wide (word (layout kinds.V) (arithmetic (form_named (VecAluOpRRR-name op)) vd vs1 vs2 0 m)))))))))
 
-abbrev pub valu_imm : List ℕ → Option Answer
-valu_imm t =
-    found (form_at t 1) (λ f.
+-- vs2 comes before vs1
+abbrev pub valu_rrrr : List ℕ → Option Answer
+valu_rrrr t =
+    found (named_at t 1 rrrr_ops) (λ op.
+    found (reg_at t 2) (λ vd.
+    found (reg_at t 3) (λ vs2.
+    found (reg_at t 4) (λ vs1.
+    found (masking_at t 5) (λ m.
+    Some (Ok (Wide (word (layout kinds.V) (arithmetic (form_named (VecAluOpRRRR-name op)) vd vs1 vs2 0 m)))))))))
+
+abbrev pub valu_rr_imm : List ℕ → Option Answer
+valu_rr_imm t =
+    found (named_at t 1 rr_imm5_ops) (λ op.
     found (reg_at t 2) (λ vd.
     found (integer_at t 3 16) (λ z.
     found (reg_at t 4) (λ vs2.
     found (masking_at t 5) (λ m.
-    Some (among Wide (answered (first_wide (check f.opcode 7 Opcode ∷ check f.funct3 3 Funct3 ∷ check f.funct 6 Funct6 ∷ [])) (word (layout kinds.VImm) (fields vd 0 vs2 (twos 5 z) (mask_bit m) f.opcode f.funct3 f.funct)))))))))
+    Some (Ok (Wide (word (layout kinds.VImm) (arithmetic (form_named (VecAluOpRRImm5-name op)) vd 0 vs2 (twos 5 z) m)))))))))
+
+abbrev pub valu_rrr_imm : List ℕ → Option Answer
+valu_rrr_imm t =
+    found (named_at t 1 rrr_imm5_ops) (λ op.
+    found (reg_at t 2) (λ vd.
+    found (integer_at t 3 16) (λ z.
+    found (reg_at t 4) (λ vs2.
+    found (masking_at t 5) (λ m.
+    Some (Ok (Wide (word (layout kinds.VImm) (arithmetic (form_named (VecAluOpRRRImm5-name op)) vd 0 vs2 (twos 5 z) m)))))))))
 
 abbrev pub vmem : List ℕ → Option Answer
 vmem t =

@@ -63,7 +63,7 @@ impl Named for Encoder {
 
 impl Encoder {
     // What it answers to the operands of the line.
-    pub fn answer(self, line: &[u8]) -> Option<Answer>
+    pub(crate) fn answer(self, line: &[u8]) -> Option<Answer>
         ensures { result ≡ answer_by self line.now }
     {
         // Stays: one arm an encoder, since a table would hand out function pointers, which the gate refuses.
@@ -71,9 +71,10 @@ impl Encoder {
             Encoder::RType => wide_words::r(line),
             Encoder::IType => wide_words::i(line),
             Encoder::SType => wide_words::s(line),
-            Encoder::Valu => wide_words::valu(line, 3, 4),
-            Encoder::ValuRrrr => wide_words::valu(line, 4, 3),
-            Encoder::ValuRrImm | Encoder::ValuRrrImm => wide_words::valu_imm(line),
+            Encoder::Valu => wide_words::valu(line),
+            Encoder::ValuRrrr => wide_words::valu_rrrr(line),
+            Encoder::ValuRrImm => wide_words::valu_rr_imm(line),
+            Encoder::ValuRrrImm => wide_words::valu_rrr_imm(line),
             Encoder::VmemLoad => wide_words::vmem_load(line),
             Encoder::VmemStore => wide_words::vmem_store(line),
             Encoder::CrType => short_words::cr(line),

@@ -1,16 +1,16 @@
-// Whether a line's word is what the encoder answers.
-ghost use Rattle.std.specs.Prelude.{◌≡◌, ◌-◌, length};
+// Whether what a line tells is the answer here.
+ghost use Rattle.std.specs.Prelude.{◌≡◌};
 ghost use Rattle.std.specs.Option.{option_map};
 ghost use Rattle.std.specs.Str.{bytes_eq};
-ghost use Rattle.text.specs.Fields.{fields};
 ghost use Rattle.text.specs.Words.{hex_of};
-ghost use Rattle.text.specs.Found.{found};
 ghost use Rattle.replay.specs.Operands.{text_at as text-at};
-ghost use Rattle.replay.specs.Lines.{answer_of, written, agrees_of};
+ghost use Rattle.replay.specs.Lines.{answer_of, written, encoded as encoded-of, agrees_of};
 
 use crate::answer::{Answer, Word};
+use crate::constants::{constructed, paired};
 use crate::encoder::Encoder;
 use crate::operand::operand_at;
+use crate::rules::told;
 use text::fields::{count, get};
 use text::writing::Text;
 
@@ -41,23 +41,27 @@ fn is_written(text: &[u8], a: Answer) -> bool
 }
 
 // The text of field `k`.
-fn text_at<'a>(line: &'a [u8], k: usize) -> Option<&'a [u8]>
+pub(crate) fn text_at<'a>(line: &'a [u8], k: usize) -> Option<&'a [u8]>
     ensures { option_map (λ x. x.now) result ≡ text-at line.now k }
 {
     Some(get(line, k)?.text())
 }
 
-fn agreed(line: &[u8]) -> Option<bool>
-    ensures { result ≡ found (answer_of line.now) (λ a. option_map (λ w. bytes_eq w (written a)) (text-at line.now (length (fields line.now) - 1))) }
+// Whether the last field is the answer of the encoder.
+fn encoded(line: &[u8]) -> Option<bool>
+    ensures { result ≡ encoded-of line.now }
 {
     let a = answer(line)?;
     let last = text_at(line, count(line).saturating_sub(1))?;
     Some(is_written(last, a))
 }
 
-// Whether the last field is the answer.
-pub fn agrees(line: &[u8]) -> bool
+// Whether what the line tells is the answer here.
+pub(crate) fn agrees(line: &[u8]) -> bool
     ensures { result ≡ agrees_of line.now }
 {
-    agreed(line).unwrap_or(false)
+    encoded(line).unwrap_or(false)
+        || constructed(line).unwrap_or(false)
+        || paired(line).unwrap_or(false)
+        || told(line).unwrap_or(false)
 }

@@ -4,14 +4,10 @@ ghost use Rattle.std.specs.List.{find};
 ghost use Rattle.std.specs.Option.{option_map};
 ghost use Rattle.std.specs.Str.{bytes_eq};
 ghost use Rattle.text.specs.Fields.{text_of};
-ghost use Rattle.operations.specs.declared.row.Form.{Form as TheForm};
-ghost use Rattle.replay.specs.Names.{meant, form_of as form_called, cr_ops, ca_ops, cj_ops, ci_ops, ciw_ops, cb_ops, css_ops, cs_ops, cl_ops, widths};
+ghost use Rattle.replay.specs.Names.{meant, cr_ops, ca_ops, cj_ops, ci_ops, ciw_ops, cb_ops, css_ops, cs_ops, cl_ops, widths};
 
 use crate::operand::Operand;
 use args::{CaOp, CbOp, CiOp, CiwOp, CjOp, ClOp, CrOp, CsOp, CssOp, VecElementWidth};
-use operations::names::by_name;
-use operations::row::Form;
-use operations::table::form_of;
 use text::fields::Field;
 
 // Values that have names.
@@ -46,20 +42,6 @@ impl<T: Named> Operand for T {
 
     fn of(field: Field<'_>) -> Option<T> {
         called(field.text())
-    }
-}
-
-// What the table says of the operation that a field names.
-impl Operand for Form {
-    ghost Meaning = { TheForm };
-
-    ghost meaning = { λ f. f };
-
-    ghost read = { λ p. form_called (text_of p) };
-
-    fn of(field: Field<'_>) -> Option<Form> {
-        let op = by_name(field.text())?;
-        Some(form_of(op))
     }
 }
 

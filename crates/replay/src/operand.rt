@@ -1,5 +1,5 @@
 // The operands in the fields of a line.
-ghost use Rattle.std.specs.Prelude.{◌≡◌, ◌-◌, ◌^◌, min, Option, ℕ, ℤ};
+ghost use Rattle.std.specs.Prelude.{◌≡◌, ◌-◌, ◌^◌, min, Some, Option, ℕ, ℤ};
 ghost use Rattle.std.specs.Option.{option_map};
 ghost use Rattle.text.specs.Fields.{Part};
 ghost use Rattle.text.specs.Shown.{shown};
@@ -25,7 +25,7 @@ pub trait Operand: Copy {
 }
 
 // The operand in field `k`.
-pub fn operand_at<T: Operand>(line: &[u8], k: usize) -> Option<T>
+pub(crate) fn operand_at<T: Operand>(line: &[u8], k: usize) -> Option<T>
     ensures { option_map T.meaning result ≡ stands line.now k T.read }
 {
     T::of(get(line, k)?)
@@ -54,6 +54,19 @@ impl Operand for u8 {
 
     fn of(field: Field<'_>) -> Option<u8> {
         u8::try_from(field.value()?).ok()
+    }
+}
+
+// Any number of signed 64 bits.
+impl Operand for i64 {
+    ghost Meaning = { ℤ };
+
+    ghost meaning = { λ n. n };
+
+    ghost read = { counted (λ z. Some z) };
+
+    fn of(field: Field<'_>) -> Option<i64> {
+        field.value()
     }
 }
 

@@ -11,7 +11,7 @@ use encoders::encode::{
     encode_cs_type, encode_css_type,
 };
 
-pub fn cr(line: &[u8]) -> Option<Answer>
+pub(crate) fn cr(line: &[u8]) -> Option<Answer>
     ensures { result ≡ cr_type line.now }
 {
     let op = operand_at(line, 1)?;
@@ -20,7 +20,7 @@ pub fn cr(line: &[u8]) -> Option<Answer>
     Some(Ok(Word::Short(encode_cr_type(op, rd, rs2))))
 }
 
-pub fn cr2(line: &[u8]) -> Option<Answer>
+pub(crate) fn cr2(line: &[u8]) -> Option<Answer>
     ensures { result ≡ cr2_type line.now }
 {
     let op = operand_at(line, 1)?;
@@ -28,7 +28,7 @@ pub fn cr2(line: &[u8]) -> Option<Answer>
     Some(Ok(Word::Short(encode_cr2_type(op, rs1))))
 }
 
-pub fn ca(line: &[u8]) -> Option<Answer>
+pub(crate) fn ca(line: &[u8]) -> Option<Answer>
     ensures { result ≡ ca_type line.now }
 {
     let op = operand_at(line, 1)?;
@@ -37,7 +37,7 @@ pub fn ca(line: &[u8]) -> Option<Answer>
     Some(Ok(Word::Short(encode_ca_type(op, rd, rs2))))
 }
 
-pub fn cj(line: &[u8]) -> Option<Answer>
+pub(crate) fn cj(line: &[u8]) -> Option<Answer>
     ensures { result ≡ cj_type line.now }
 {
     let op = operand_at(line, 1)?;
@@ -45,7 +45,7 @@ pub fn cj(line: &[u8]) -> Option<Answer>
     Some(encode_cj_type(op, distance).map(Word::Short))
 }
 
-pub fn ci(line: &[u8]) -> Option<Answer>
+pub(crate) fn ci(line: &[u8]) -> Option<Answer>
     ensures { result ≡ ci_type line.now }
 {
     let op = operand_at(line, 1)?;
@@ -54,7 +54,7 @@ pub fn ci(line: &[u8]) -> Option<Answer>
     Some(Ok(Word::Short(encode_ci_type(op, rd, imm))))
 }
 
-pub fn ci_sp(line: &[u8]) -> Option<Answer>
+pub(crate) fn ci_sp(line: &[u8]) -> Option<Answer>
     ensures { result ≡ ci_sp_load line.now }
 {
     let op = operand_at(line, 1)?;
@@ -63,14 +63,14 @@ pub fn ci_sp(line: &[u8]) -> Option<Answer>
     Some(encode_ci_sp_load(op, rd, imm).map(Word::Short))
 }
 
-pub fn addi16sp(line: &[u8]) -> Option<Answer>
+pub(crate) fn addi16sp(line: &[u8]) -> Option<Answer>
     ensures { result ≡ c_addi16sp line.now }
 {
     let imm = operand_at(line, 1)?;
     Some(Ok(Word::Short(encode_c_addi16sp(imm))))
 }
 
-pub fn ciw(line: &[u8]) -> Option<Answer>
+pub(crate) fn ciw(line: &[u8]) -> Option<Answer>
     ensures { result ≡ ciw_type line.now }
 {
     let op = operand_at(line, 1)?;
@@ -79,7 +79,7 @@ pub fn ciw(line: &[u8]) -> Option<Answer>
     Some(Ok(Word::Short(encode_ciw_type(op, rd, imm))))
 }
 
-pub fn cb(line: &[u8]) -> Option<Answer>
+pub(crate) fn cb(line: &[u8]) -> Option<Answer>
     ensures { result ≡ cb_type line.now }
 {
     let op = operand_at(line, 1)?;
@@ -88,7 +88,7 @@ pub fn cb(line: &[u8]) -> Option<Answer>
     Some(Ok(Word::Short(encode_cb_type(op, rd, imm))))
 }
 
-pub fn css(line: &[u8]) -> Option<Answer>
+pub(crate) fn css(line: &[u8]) -> Option<Answer>
     ensures { result ≡ css_type line.now }
 {
     let op = operand_at(line, 1)?;
@@ -97,7 +97,7 @@ pub fn css(line: &[u8]) -> Option<Answer>
     Some(Ok(Word::Short(encode_css_type(op, src, imm))))
 }
 
-pub fn cs(line: &[u8]) -> Option<Answer>
+pub(crate) fn cs(line: &[u8]) -> Option<Answer>
     ensures { result ≡ cs_type line.now }
 {
     let op = operand_at(line, 1)?;
@@ -107,7 +107,7 @@ pub fn cs(line: &[u8]) -> Option<Answer>
     Some(Ok(Word::Short(encode_cs_type(op, src, base, imm))))
 }
 
-pub fn cl(line: &[u8]) -> Option<Answer>
+pub(crate) fn cl(line: &[u8]) -> Option<Answer>
     ensures { result ≡ cl_type line.now }
 {
     let op = operand_at(line, 1)?;

@@ -9,11 +9,11 @@ use text::lines::Lines;
 #[derive(Clone, Copy, Default)]
 pub struct Tally {
     pub lines: usize,
-    // lines whose word is what the encoder answers
+    // lines that tell the answer here
     pub equal: usize,
 }
 
-pub fn counted(text: &[u8]) -> Tally
+pub(crate) fn counted(text: &[u8]) -> Tally
     ensures lines { result.lines ≡ line_count (lines text.now) }
     ensures equal { result.equal ≡ equal_count (lines text.now) }
     ensures within { result.equal ≤ result.lines }

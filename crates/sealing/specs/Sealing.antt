@@ -55,6 +55,11 @@ tested cells used ls js = cond (nat_le used (length cells)) (tested_from 0 ls ce
 
 -- ---- what is put: every halfword of each jump's word, at the distance to its label
 
+-- halfwords from a place up, if there are any
+abbrev pub put_at : ℕ → Option (List ℕ) → List (ℕ × ℕ)
+put_at p None = []
+put_at p (Some hs) = puts p hs
+
 abbrev pub aimed_puts : ℕ → Option ℕ → Option Item → List (ℕ × ℕ)
 aimed_puts p None i = []
 aimed_puts p (Some q) None = []

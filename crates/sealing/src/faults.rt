@@ -43,6 +43,13 @@ impl JumpCause {
 }
 
 impl SealFault {
+    // That fault of the jump of that number, at that place.
+    pub fn of(jump: usize, place: u32, cause: JumpCause) -> SealFault
+        ensures { result ≡ SealFault.Jump (record { jump = jump; place = place; cause = cause }) }
+    {
+        SealFault::Jump(BadJump { jump, place, cause })
+    }
+
     // The number of the refusal. Stays a number: callers are told it, as docs/REFUSALS.md lists it.
     pub fn number(&self) -> u8
         ensures { result ≡ refusal self.now }

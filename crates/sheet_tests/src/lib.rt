@@ -2,9 +2,14 @@
 #![tactic(auto)]
 
 #[cfg(test)]
+mod every;
+
+#[cfg(test)]
 mod tests {
+    use crate::every::{first_sheet, first_words, second_sheet, second_words};
     use sheets::faults::SizeFault;
     use sheets::sheet::sheet;
+    use std::alloc::Global;
     use std::process::Abort;
     use std::test::Fail;
 
@@ -264,14 +269,13 @@ mod tests {
         all(&rt, &FIELDS)
     }
 
-    // Vector and compressed operations: words, masks, overlaps, values that are not taken there, short registers; and a jump.
-    const RULES: [(&str, &str); 17] = [
+    // Vector and compressed operations: words, masks, overlaps, values that are not taken there, short registers.
+    const RULES: [(&str, &str); 16] = [
         (
             "op,d,a,b,n,m\nVaddVV,1,3,2,,\nvle32,8,10,,,\nCMv,10,,11,,\nCLwsp,1,,,64,\n",
             "at,word\n0,022180d7\n4,02056407\n8,852e\n10,4086\n",
         ),
         ("op,d,a,b,n,m\nVmseqVV,0,3,2,,1\n", "at,word\n0,60218057\n"),
-        ("op,d,a,b,n,m\njal,1,,,8,\n", "line,fault\n2,3\n"),
         ("op,d,a,b,n,m\nVaddVV,1,3,2,,2\n", "line,fault\n2,2\n"),
         ("op,d,a,b,n,m\nVaddVV,0,3,2,,1\n", "line,fault\n2,4\n"),
         ("op,d,a,b,n,m\nVwadduVV,1,1,2,,\n", "line,fault\n2,4\n"),
@@ -291,6 +295,163 @@ mod tests {
     #[test]
     fn rules(rt: HostRuntime) -> Result<(), Fail> {
         all(&rt, &RULES)
+    }
+
+    // Lines, each with its newline.
+    fn lines(alloc: Global, lines: &[&str]) -> Result<String, Fail> {
+        let mut text = String::new(alloc);
+        for line in lines {
+            text.push_str(line)?;
+            text.push_str("\n")?;
+        }
+        Ok(text)
+    }
+
+    // Every operation, over two sheets: the words are an assembler's.
+    #[test]
+    fn every_operation(rt: HostRuntime) -> Result<(), Fail> {
+        let sheet = lines(rt.alloc(), first_sheet())?;
+        let words = lines(rt.alloc(), first_words())?;
+        answered(&rt, "the first half", sheet.as_bytes(), words.as_bytes())?;
+        let sheet = lines(rt.alloc(), second_sheet())?;
+        let words = lines(rt.alloc(), second_words())?;
+        answered(&rt, "the second half", sheet.as_bytes(), words.as_bytes())
+    }
+
+    // Constants, labels and jumps to them, forward and back; a label needs no jump.
+    const LABELS: [(&str, &str); 9] = [
+        (
+            "op,d,a,b,n,m\nconst,5,,,2048,\nCJ,,,,7,\nadd,3,1,2,,\nbind,,,,7,\n",
+            "at,word\n0,000012b7\n4,80028293\n8,a019\n10,002081b3\n",
+        ),
+        (
+            "op,d,a,b,n,m\nconst,5,,,-2049,\n",
+            "at,word\n0,fffff2b7\n4,7ff28293\n",
+        ),
+        (
+            "op,d,a,b,n,m\nconst,31,,,2147481599,\n",
+            "at,word\n0,7fffffb7\n4,7fff8f93\n",
+        ),
+        (
+            "op,d,a,b,n,m\nbind,,,,3,\naddi,1,1,,-1,\nbne,,1,,3,\n",
+            "at,word\n0,fff08093\n4,fe009ee3\n",
+        ),
+        (
+            "op,d,a,b,n,m\njal,1,,,5,\nadd,3,1,2,,\nbind,,,,5,\n",
+            "at,word\n0,008000ef\n4,002081b3\n",
+        ),
+        (
+            "op,d,a,b,n,m\nbind,,,,0,\nbind,,,,63,\nCJ,,,,63,\nCJ,,,,0,\n",
+            "at,word\n0,a001\n2,bffd\n",
+        ),
+        ("op,d,a,b,n,m\nbind,,,,9,\n", "at,word\n"),
+        ("n,op,m,b,a,d\n7,bind,,,,\n7,CJ,,,,\n", "at,word\n0,a001\n"),
+        (
+            "op,d,a,b,n,m\nbeq,,1,2,0,\nbind,0,0,0,0,0\n",
+            "at,word\n0,00208263\n",
+        ),
+    ];
+
+    #[test]
+    fn labels(rt: HostRuntime) -> Result<(), Fail> {
+        all(&rt, &LABELS)
+    }
+
+    // Constants, labels and jumps that are refused: first a field that is not used, then register, number, label.
+    const REFUSED: [(&str, &str); 22] = [
+        ("op,d,a,b,n,m\nconst,0,1,,5,\n", "line,fault\n2,3\n"),
+        ("op,d,a,b,n,m\nconst,5,,1,5,\n", "line,fault\n2,3\n"),
+        ("op,d,a,b,n,m\nconst,5,,,5,1\n", "line,fault\n2,3\n"),
+        ("op,d,a,b,n,m\nconst,0,,,5,\n", "line,fault\n2,1\n"),
+        (
+            "op,d,a,b,n,m\nconst,32,,,2147481600,\n",
+            "line,fault\n2,1\n",
+        ),
+        ("op,d,a,b,n,m\nconst,5,,,2147481600,\n", "line,fault\n2,2\n"),
+        ("op,d,a,b,n,m\nconst,5,,,x,\n", "line,fault\n2,18\n"),
+        ("op,d,a,b,n,m\nbind,1,,,64,\n", "line,fault\n2,3\n"),
+        ("op,d,a,b,n,m\nbind,,,,64,\n", "line,fault\n2,7\n"),
+        ("op,d,a,b,n,m\nbind,,,,-1,\n", "line,fault\n2,7\n"),
+        (
+            "op,d,a,b,n,m\nbind,,,,7,\nadd,3,1,2,,\nbind,,,,7,\n",
+            "line,fault\n4,9\n",
+        ),
+        ("op,d,a,b,n,m\njal,32,,,64,1\n", "line,fault\n2,3\n"),
+        ("op,d,a,b,n,m\njal,32,1,,64,\n", "line,fault\n2,3\n"),
+        ("op,d,a,b,n,m\njal,32,,,64,\n", "line,fault\n2,1\n"),
+        ("op,d,a,b,n,m\njal,1,,,64,\n", "line,fault\n2,7\n"),
+        ("op,d,a,b,n,m\nCJ,,,,-1,\n", "line,fault\n2,7\n"),
+        ("op,d,a,b,n,m\njal,1,,,8,\n", "line,fault\n2,10\n"),
+        (
+            "op,d,a,b,n,m\nbind,,,,1,\nCJ,,,,1,\nadd,3,1,2,,\nCJ,,,,2,\nbind,,,,3,\nCJ,,,,4,\n",
+            "line,fault\n5,10\n",
+        ),
+        (
+            "op,d,a,b,n,m\nCJ,,,,1,\nadd,32,1,2,,\n",
+            "line,fault\n3,1\n",
+        ),
+        ("op,d,a,b,n,m\nCJ,,,,1,\nadd,3,1,2,,", "line,fault\n3,17\n"),
+        ("op,d,a,b,n,m\nCJ,,,,1,\n\n", "line,fault\n3,17\n"),
+        ("op,d,a,b,n,m\nConst,5,,,1,\n", "line,fault\n2,18\n"),
+    ];
+
+    #[test]
+    fn refusals(rt: HostRuntime) -> Result<(), Fail> {
+        all(&rt, &REFUSED)
+    }
+
+    // A names line and that many lines alike, and then these.
+    fn alike(
+        rt: &impl Abort,
+        alloc: Global,
+        line: &str,
+        count: u8,
+        last: &str,
+        answer: &str,
+    ) -> Result<(), Fail> {
+        let mut input = String::from_str(alloc, "op,d,a,b,n,m\n")?;
+        for _ in 0..count {
+            input.push_str(line)?;
+        }
+        input.push_str(last)?;
+        answered(rt, last, input.as_bytes(), answer.as_bytes())
+    }
+
+    // One constant, jump or word too many.
+    #[test]
+    fn too_many(rt: HostRuntime) -> Result<(), Fail> {
+        alike(
+            &rt,
+            rt.alloc(),
+            "const,1,,,0,\n",
+            32,
+            "const,1,,,0,\n",
+            "line,fault\n34,6\n",
+        )?;
+        alike(
+            &rt,
+            rt.alloc(),
+            "CJ,,,,1,\n",
+            128,
+            "CJ,,,,1,\n",
+            "line,fault\n130,8\n",
+        )?;
+        alike(
+            &rt,
+            rt.alloc(),
+            "add,3,1,2,,\n",
+            127,
+            "const,1,,,0,\n",
+            "line,fault\n129,5\n",
+        )?;
+        alike(
+            &rt,
+            rt.alloc(),
+            "add,3,1,2,,\n",
+            128,
+            "bind,,,,1,\nCJ,,,,1,\n",
+            "line,fault\n131,5\n",
+        )
     }
 
     // 128 words of 32 bits fill the store, and one more is refused; its own fields come first.

@@ -1,3 +1,5 @@
-pub mod Taking
+pub mod Runs
+pub mod LineOrder
+pub mod MoreCalls
+pub mod Calm
 pub mod Rows
-pub mod Real

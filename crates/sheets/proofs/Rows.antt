@@ -1,5 +1,6 @@
 -- The words that stand in a store print as the listing's.
-use Rattle.std.proofs.Common.{◌≡◌, ℕ, ◌+◌, ◌*◌, ◌/◌, ◌%◌, Bool, true, false, cond, eqb, List, [], ◌∷◌, ◌++◌, take, Ok, codes, sym, refl, ap, ◌∙◌, subst, div-add-mod', arith}
+use Rattle.std.proofs.Common.{◌≡◌, ℕ, ◌+◌, ◌*◌, ◌/◌, ◌%◌, Bool, true, false, cond, eqb, List, [], ◌∷◌, ◌++◌, take, Ok, codes, sym, refl, ap, ◌∙◌, subst, div-add-mod', arith, length, ◌≤◌}
+use Rattle.std.proofs.lemmas.List.{length-take}
 use Rattle.std.proofs.lemmas.Bool.Decides.{nat_tests}
 use Rattle.text.specs.Lines.{lines}
 use Rattle.printing.specs.Printed.{newline, printed, word_row, words_text}
@@ -8,9 +9,11 @@ use Rattle.formats.specs.Layouts.{size}
 use Rattle.operations.specs.Manual.{form_at}
 use Rattle.instructions.specs.Words.{halves, word_of}
 use Rattle.instructions.proofs.Sizes.{low_bits_tell}
-use Rattle.sheets.specs.Listing.{Listing, halfs, listed}
+use Rattle.items.specs.Items.{Item, Lawful, AllLawful, words, halfs}
+use Rattle.lives.specs.Listing.{Stage, end}
+use Rattle.sheets.specs.History.{history}
+use Rattle.sheets.specs.Entries.{Holds}
 use Rattle.sheets.specs.Sheet.{rows, text_of, answer}
-use Rattle.sheets.proofs.Real.{EachReal, listed_real}
 
 -- a word's halfwords, before others
 abbrev Prints : ℕ → ℕ → ℕ → List ℕ → Type 0
@@ -32,16 +35,21 @@ first place n w hs e = go (eqb (w % 4) 3) refl
         let one : n ≡ 1 = e ∙ ap (λ b. cond b 2 1) t in
         subst (λ m. Prints place m w hs) (sym one) (printed_one place w hs (not_three w t))
 
-pub prints : (place : ℕ) (listing : Listing) → EachReal listing → printed place (halfs listing) ≡ rows place listing
+pub prints : (place : ℕ) (code : List Item) → AllLawful code → printed place (halfs code) ≡ rows place code
+unfolding words Lawful
 prints place [] r = refl
 prints place (x ∷ xs) r =
     let n = size (form_at x.0).kind in
-    first place n (word_of (form_at x.0) x.1) (halfs xs) (low_bits_tell x.0 x.1 r.0)
+    first place n (word_of (form_at x.0) x.1) (halfs xs) (low_bits_tell x.0 x.1 r.0.0)
     ∙ ap (λ t. word_row place (4 * n) (word_of (form_at x.0) x.1) ++ t) (prints (place + n) xs r.1)
 
 -- the words that stand where a sheet's listing does are its answer
-pub words_answer : (bytes : List ℕ) (listing : Listing) (used : ℕ) (hs : List ℕ) → listed 256 (lines bytes) ≡ Ok listing → take used hs ≡ halfs listing → words_text (take used hs) ≡ answer bytes
-words_answer bytes listing used hs e w =
-    ap words_text w
-    ∙ ap (λ t. codes "at,word" ++ newline ++ t) (prints 0 listing (listed_real 256 listing (lines bytes) e))
+pub words_answer : (bytes : List ℕ) (s : Stage) (cells : List ℕ) → history 256 (lines bytes) ≡ Ok s → Holds s cells → words_text (take (end s.listing) cells) ≡ answer bytes
+words_answer bytes s cells e t =
+    ap words_text t.words
+    ∙ ap (λ t. codes "at,word" ++ newline ++ t) (prints 0 s.listing.code t.lawful)
     ∙ sym (ap text_of e)
+
+-- the store has them
+pub holds_within : (s : Stage) (cells : List ℕ) → Holds s cells → end s.listing ≤ length cells
+holds_within s cells t = omega (arith, ap length t.words, length-take (end s.listing) cells)

@@ -1,4 +1,4 @@
-pub mod Listing
-pub mod Assembled
+pub mod History
+pub mod Entries
 pub mod Numbers
 pub mod Sheet

@@ -1,61 +1,60 @@
-// A sheet's lines, taken into a program one after the other.
-ghost use Rattle.std.specs.Prelude.{◌≡◌, ◌+◌, ◌≤◌, [], length, Ok};
-ghost use Rattle.store.specs.Answers.{when};
-ghost use Rattle.store.specs.Puts.{applied, puts};
-ghost use Rattle.text.specs.Given.{given};
+// A sheet's calls, answered one after another by its program.
+ghost use Rattle.std.specs.Prelude.{◌≡◌, ◌≤◌, ◌<◌, map, length, take};
 ghost use Rattle.text.specs.Lines as text_lines;
-ghost use Rattle.sheets.specs.Listing.{spoken, named_by, at_line, answered_line, said, listed_from, listed, Comes};
-ghost use Rattle.sheets.specs.Assembled.{Assembled};
+ghost use Rattle.lives.specs.Life.{call_of, given_up};
+ghost use Rattle.lives.specs.Listing.{start, end};
+ghost use Rattle.text.specs.Given.{given};
+ghost use Rattle.sheets.specs.History.{named_by, says, ended_by_seal, history};
+ghost use Rattle.sheets.specs.Entries.{answer_of, answers, reached, outcome, Holds, Answered, Comes};
 
+use crate::entries::{MOST, read_calls, unanswered};
+use crate::refusals::taken;
 use lines::columns::Columns;
 use lines::faults::{LineFault, SheetFault};
-use lines::line::Line;
-use program::open::Open;
+use lives::types::{Call, Entry};
+use programs::run::live;
+use records::book::Book;
 use store::store::Store;
 use text::lines::{Lines, Unended};
 
-// Takes one line.
-fn take_line<S: Store>(
-    program: &mut Open,
-    store: &mut S,
-    columns: &Columns,
-    line: Result<&[u8], Unended<'_>>,
-) -> Result<(), LineFault>
-    ensures answer { result ≡ answered_line (length (S.halfwords store.old)) program.old.counts.used (spoken columns.now (given line.entry)) }
-    ensures used { program.new.counts.used ≡ when result (program.old.counts.used + length (said (spoken columns.now (given line.entry)))) program.old.counts.used }
-    ensures after { S.halfwords store.new ≡ applied (when result (puts program.old.counts.used (said (spoken columns.now (given line.entry)))) []) (S.halfwords store.old) }
+// Answers the calls in order, and tells how many halfwords are used then.
+fn run<S: Store>(store: &mut S, entries: &mut [Entry<'_>]) -> usize
+    ensures calls { map call_of entries.new ≡ map call_of entries.old }
+    ensures answers { map answer_of entries.new ≡ answers (length (S.halfwords store.old)) start (map call_of entries.old) }
+    ensures holds { Holds (reached (length (S.halfwords store.old)) start (map call_of entries.old)) (S.halfwords store.new) }
+    ensures used { result ≡ end (given_up (reached (length (S.halfwords store.old)) start (map call_of entries.old))).listing }
+    ensures size { length (S.halfwords store.new) ≡ length (S.halfwords store.old) }
 {
-    let l = Line::of(columns, line?)?;
-    program.emit_fields(store, l.op, l.fields)?;
-    Ok(())
+    let mut book = Book::new();
+    live(store, &mut book, entries)
 }
 
-// What came of a line, with the line's number at a fault.
-fn numbered(number: u32, taken: Result<(), LineFault>) -> Result<(), SheetFault>
-    ensures { result ≡ at_line number taken Ok }
+// Answers the calls and tells how many halfwords are used then, or the first that is refused, with its line.
+fn answered<S: Store>(store: &mut S, entries: &mut [Entry<'_>]) -> Result<usize, SheetFault>
+    requires { length entries.old ≤ 683 }
+    ensures answer { Answered (outcome (length (S.halfwords store.old)) (map call_of entries.old)) result (S.halfwords store.new) }
+    ensures size { length (S.halfwords store.new) ≡ length (S.halfwords store.old) }
 {
-    taken.map_err(|fault| SheetFault {
-        line: number,
-        fault,
-    })
+    let used = run(store, entries);
+    taken(entries)?;
+    Ok(used)
 }
 
-// Takes the lines, the first of which has the number 2.
-fn take_lines<S: Store>(
-    program: &mut Open,
+// The history of the lines' calls and the seal.
+fn lines_history<S: Store>(
     store: &mut S,
     columns: &Columns,
     lines: Lines<'_>,
-) -> Result<(), SheetFault>
-    requires empty { program.old.counts.used ≡ 0 }
-    requires short { length (text_lines.lines lines.rest.now) ≤ 4096 }
-    ensures { Comes (listed_from (length (S.halfwords store.old)) columns.now 2 [] (text_lines.lines lines.entry.rest.now)) result (length (S.halfwords store.old)) program.new.counts.used (S.halfwords store.new) }
+) -> Result<usize, SheetFault>
+    requires { length (text_lines.sheet (text_lines.lines lines.rest.now)) ≤ 4096 }
+    ensures { Comes (length (S.halfwords store.old)) (ended_by_seal (length (S.halfwords store.old)) (map (says columns.now) (text_lines.lines lines.entry.rest.now))) result (S.halfwords store.new) }
 {
-    for (index, line) in lines.enumerate() {
-        let number = index as u32 + 2;
-        numbered(number, take_line(program, store, columns, line))?;
-    }
-    Ok(())
+    let mut all = [unanswered(Call::Seal); MOST];
+    let reading = read_calls(&mut all, columns, lines);
+    let entries = &mut all[..reading.calls];
+    let used = answered(store, entries)?;
+    reading.kept?;
+    Ok(used)
 }
 
 // The columns that a line names, if it is ended.
@@ -65,10 +64,10 @@ fn columns_of(line: Result<&[u8], Unended<'_>>) -> Option<Columns>
     Columns::of(line.ok()?)
 }
 
-// Takes a sheet into a program.
-pub(crate) fn assemble<S: Store>(input: &[u8], store: &mut S) -> Result<Open, SheetFault>
+// Takes a sheet into a program, and tells how many halfwords that has.
+pub(crate) fn assemble<S: Store>(input: &[u8], store: &mut S) -> Result<usize, SheetFault>
     requires { length input.now ≤ 4096 }
-    ensures { Assembled (listed (length (S.halfwords store.old)) (text_lines.lines input.now)) result (length (S.halfwords store.old)) (S.halfwords store.new) }
+    ensures { Comes (length (S.halfwords store.old)) (history (length (S.halfwords store.old)) (text_lines.lines input.now)) result (S.halfwords store.new) }
 {
     let names = SheetFault {
         line: 1,
@@ -76,7 +75,5 @@ pub(crate) fn assemble<S: Store>(input: &[u8], store: &mut S) -> Result<Open, Sh
     };
     let mut lines = Lines::of(input);
     let columns = lines.next().and_then(columns_of).ok_or(names)?;
-    let mut program = Open::new();
-    take_lines(&mut program, store, &columns, lines)?;
-    Ok(program)
+    lines_history(store, &columns, lines)
 }

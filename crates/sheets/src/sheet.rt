@@ -18,7 +18,7 @@ fn answer(input: &[u8]) -> Text<4096>
 {
     let mut store = BuiltIn::new();
     match assemble(input, &mut store) {
-        Ok(program) => print_words(&store, program.used()),
+        Ok(used) => print_words(&store, used),
         Err(fault) => print_fault(fault.line, fault.number()),
     }
 }

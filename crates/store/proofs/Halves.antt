@@ -1,7 +1,7 @@
 -- Laws of halfwords in bytes. Assumes nothing.
-use Rattle.std.proofs.Common.{◌≡◌, ℕ, zero, suc, ◌+◌, ◌-◌, ◌*◌, ◌/◌, ◌%◌, ◌<◌, ◌≤◌, min, List, [], ◌∷◌, ◌++◌, length, get_or, take, drop, set, Some, sym, refl, ap, ◌∙◌, add_assoc, add-one, arith, length-drop, length-set, length-take}
-use Rattle.std.proofs.lemmas.List.{drop-set-add, get_or-take, set-append_right, length-take-le, take-append-drop, take-set-le}
-use Rattle.std.proofs.lemmas.Option.{slice_get-get_or}
+use Rattle.std.proofs.Common.{◌≡◌, ℕ, zero, suc, ◌+◌, ◌-◌, ◌*◌, ◌/◌, ◌%◌, ◌<◌, ◌≤◌, min, List, [], ◌∷◌, ◌++◌, length, get_or, take, drop, set, Some, None, sym, refl, ap, ◌∙◌, add_assoc, add-one, arith, length-drop, length-set, length-take}
+use Rattle.std.proofs.lemmas.List.{drop-set-add, get_or-take, set-append_right, take_rest, length-take-le, take-append-drop, take-set-le}
+use Rattle.std.proofs.lemmas.Option.{slice_get-get_or, slice_get_past}
 use Rattle.std.specs.List.{slice_get}
 use Rattle.store.proofs.Fronts.{take-set_any}
 use Rattle.store.specs.Halves.{halves, held, with_half}
@@ -12,8 +12,8 @@ length-halves (x ∷ []) = refl
 length-halves (x ∷ (y ∷ rest)) = let h = length-halves rest in omega arith
 
 -- how many halfwords a memory has from a byte on
-pub length-held : (start : ℕ) (m : List ℕ) → length (held start m) ≡ min 32768 ((length m - start) / 2)
-length-held start m = simp (length-take, length-halves, length-drop)
+pub length_held : (start : ℕ) (m : List ℕ) → length (held start m) ≡ min 32768 ((length m - start) / 2)
+length_held start m = simp (length-take, length-halves, length-drop)
 
 two_suc : (p : ℕ) → 2 * suc p ≡ suc (suc (2 * p))
 two_suc p = omega arith
@@ -43,9 +43,9 @@ drop-with_half start m i h =
     ∙ ap (λ t. set t (i + 1) (h / 256)) (drop-set-add start m i (h % 256))
 
 -- a halfword put at the place p of a memory from a byte on
-pub held-with_half : (start : ℕ) (m : List ℕ) (p h : ℕ) → p < length (held start m) → held start (with_half m (start + 2 * p) h) ≡ set (held start m) p h
-held-with_half start m p h l =
-    let inside : 2 * p + 1 < length (drop start m) = omega (arith, length-held start m, length-drop start m) in
+pub held_with_half : (start : ℕ) (m : List ℕ) (p h : ℕ) → p < length (held start m) → held start (with_half m (start + 2 * p) h) ≡ set (held start m) p h
+held_with_half start m p h l =
+    let inside : 2 * p + 1 < length (drop start m) = omega (arith, length_held start m, length-drop start m) in
     ap (λ t. take 32768 (halves t)) (drop-with_half start m (2 * p) h)
     ∙ ap (take 32768) (halves-with_half (drop start m) p h inside)
     ∙ take-set_any 32768 (halves (drop start m)) p h
@@ -53,9 +53,21 @@ held-with_half start m p h l =
 -- the halfword at the place p of a memory from a byte on
 pub nth_held : (start : ℕ) (m : List ℕ) (p : ℕ) → p < length (held start m) → slice_get (held start m) p ≡ Some (get_or (drop start m) (2 * p) 0 + 256 * get_or (drop start m) (2 * p + 1) 0)
 nth_held start m p l =
-    let len : p < min 32768 ((length m - start) / 2) = rw (length-held start m) at l in
+    let len : p < min 32768 ((length m - start) / 2) = rw (length_held start m) at l in
     let inside : 2 * p + 1 < length (drop start m) = omega (arith, length-drop start m) in
     slice_get-get_or (held start m) p 0 l ∙ ap Some (get_or-take 32768 (halves (drop start m)) p 0 (omega arith) ∙ get_or-halves (drop start m) p inside)
+
+-- the same, read off the bytes from start on
+pub nth_read : (start : ℕ) (m : List ℕ) (p : ℕ) → p < length (held start m) → slice_get (held start m) p ≡ Some (get_or (take (length m - start) (drop start m)) (2 * p) 0 + 256 * get_or (take (length m - start) (drop start m)) (2 * p + 1) 0)
+nth_read start m p l = nth_held start m p l ∙ ap (λ xs. Some (get_or xs (2 * p) 0 + 256 * get_or xs (2 * p + 1) 0)) (sym (take_rest m start))
+
+-- how many bytes there are from start on
+pub length_rest : (start : ℕ) (m : List ℕ) → length (take (length m - start) (drop start m)) ≡ length m - start
+length_rest start m = simp (length-take, length-drop) (omega arith)
+
+-- none stands past the end
+pub none_past : (xs : List ℕ) (p : ℕ) → length xs ≤ p → None ≡ slice_get xs p
+none_past xs p l = sym (slice_get_past xs p l)
 
 set_rest : (start : ℕ) (m : List ℕ) (i v : ℕ) → start ≤ length m → take start m ++ set (drop start m) i v ≡ set m (start + i) v
 set_rest start m i v l =

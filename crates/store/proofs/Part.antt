@@ -1,8 +1,8 @@
 -- Laws of a part of a list. Assumes nothing.
-use Rattle.std.proofs.Common.{◌≡◌, ℕ, ◌+◌, ◌-◌, ◌<◌, min, List, length, take, drop, set, Some, sym, ap, ◌∙◌, arith, length-drop, length-take}
+use Rattle.std.proofs.Common.{◌≡◌, ℕ, ◌+◌, ◌-◌, ◌<◌, ◌≤◌, min, List, length, take, drop, set, Some, None, sym, ap, ◌∙◌, arith, length-drop, length-take}
 use Rattle.std.specs.List.{slice_get}
 use Rattle.std.proofs.lemmas.List.{drop-set-add, get_or-take, get_or-drop}
-use Rattle.std.proofs.lemmas.Option.{slice_get-get_or}
+use Rattle.std.proofs.lemmas.Option.{slice_get-get_or, slice_get_past}
 use Rattle.store.specs.Part.{part}
 use Rattle.store.proofs.Fronts.{take-set_any}
 
@@ -17,6 +17,10 @@ nth_part from most xs p l =
     ∙ ap Some (get_or-take most (drop from xs) p 0 (omega arith) ∙ get_or-drop from xs p 0)
     ∙ sym (slice_get-get_or xs (from + p) 0 (omega arith))
 
+-- none lies past the end
+pub none_part : (from most : ℕ) (xs : List ℕ) (p : ℕ) → length (part from most xs) ≤ p → slice_get (part from most xs) p ≡ None
+none_part from most xs p l = slice_get_past (part from most xs) p l
+
 -- a halfword put in the list is put in the part
-pub part-set : (from most : ℕ) (xs : List ℕ) (p h : ℕ) → part from most (set xs (from + p) h) ≡ set (part from most xs) p h
-part-set from most xs p h = ap (take most) (drop-set-add from xs p h) ∙ take-set_any most (drop from xs) p h
+pub part_set : (from most : ℕ) (xs : List ℕ) (p h : ℕ) → part from most (set xs (from + p) h) ≡ set (part from most xs) p h
+part_set from most xs p h = ap (take most) (drop-set-add from xs p h) ∙ take-set_any most (drop from xs) p h

@@ -24,10 +24,12 @@ impl<'a> Bytes<'a> {
 impl Store for Bytes<'_> {
     ghost halfwords = { λ s. held s.start s.memory.now };
 
+    #[tactic(auto, using(crate::proofs::Halves::length_held))]
     fn size(&self) -> usize {
         (self.memory.len().saturating_sub(self.start) / 2).min(32768)
     }
 
+    #[tactic(auto, using(crate::proofs::Halves::nth_read, crate::proofs::Halves::length_rest, crate::proofs::Halves::length_held, crate::proofs::Halves::none_past))]
     fn get(&self, place: usize) -> Option<u16> {
         if place < self.size() {
             Some(read_two(&self.memory[self.start..], 2 * place))
@@ -36,6 +38,7 @@ impl Store for Bytes<'_> {
         }
     }
 
+    #[tactic(auto, using(crate::proofs::Halves::held_with_half))]
     fn put(&mut self, place: usize, half: u16) -> Result<(), StoreFault>
         ensures answer { result ≡ put_answer (held self.old.start self.old.memory.now) place }
         ensures after { held self.new.start self.new.memory.now ≡ slice_set (held self.old.start self.old.memory.now) place half }

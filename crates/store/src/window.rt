@@ -34,6 +34,7 @@ impl<S: Store> Store for Window<'_, S> {
         self.below.size().saturating_sub(self.from).min(self.most)
     }
 
+    #[tactic(auto, using(crate::proofs::Part::nth_part, crate::proofs::Part::none_part))]
     fn get(&self, place: usize) -> Option<u16> {
         if place < self.size() {
             self.below.get(self.from + place)
@@ -42,6 +43,7 @@ impl<S: Store> Store for Window<'_, S> {
         }
     }
 
+    #[tactic(auto, using(crate::proofs::Part::part_set))]
     fn put(&mut self, place: usize, half: u16) -> Result<(), StoreFault>
         ensures answer { result ≡ put_answer (part self.old.from self.old.most (S.Store.halfwords self.old.below.now)) place }
         ensures after { part self.new.from self.new.most (S.Store.halfwords self.new.below.now) ≡ slice_set (part self.old.from self.old.most (S.Store.halfwords self.old.below.now)) place half }

@@ -6,6 +6,8 @@ use Rattle.std.proofs.lemmas.List.{drop-drop, append-nil}
 use Rattle.std.proofs.lemmas.Bool.Decides.{nat_tests}
 use Rattle.std.proofs.lemmas.List.Splits.{slice_split_first}
 use Rattle.text.specs.Fields.{fields, begins, Part, part, parts, field_of}
+use Rattle.text.specs.Shown.{shown}
+use Rattle.text.specs.declared.fields.Field.{Field}
 use Rattle.text.proofs.Marks.{far, until, found, none_found, without_all}
 use Rattle.text.proofs.Splits.{one_last}
 
@@ -49,6 +51,11 @@ field_any line k = some_mapped (λ t. part t (begins (fields line) k)) (slice_ge
     some_at (x ∷ xs) zero = grind (arith, nat_tests)
     some_at (x ∷ xs) (suc k) = some_at xs k ∙ grind (arith, nat_tests)
 
-pub is_some_shown : {A B : Type 0} (f : A → B) (o : Option A) → is_some o ≡ is_some (option_map f o)
-is_some_shown f None = refl
-is_some_shown f (Some x) = refl
+-- and so there is one among those with their places
+pub some_among : (line : List ℕ) (k : ℕ) → is_some (slice_get (parts (fields line) 0) k) ≡ ltb k (length (fields line))
+some_among line k = ap is_some (field_among line k) ∙ field_any line k
+
+-- a field is there just where it is shown
+pub some_shown : (o : Option Field) → is_some o ≡ is_some (option_map shown o)
+some_shown None = refl
+some_shown (Some x) = refl

@@ -1,5 +1,6 @@
 -- A sheet's lines one after another, for a loop over them.
-use Rattle.std.proofs.Common.{◌≡◌, ℕ, suc, ◌+◌, ◌<◌, ◌≤◌, Bool, true, false, cond, List, [], ◌∷◌, length, take, drop, position, eqb, Some, None, sym, ap, ◌∙◌, arith}
+use Rattle.std.proofs.Common.{◌≡◌, ℕ, suc, ◌+◌, ◌-◌, ◌<◌, ◌≤◌, Bool, true, false, cond, List, [], ◌∷◌, length, take, drop, position, eqb, Some, None, sym, ap, ◌∙◌, arith}
+use Rattle.std.proofs.lemmas.List.{take_rest}
 use Rattle.text.specs.Lines.{Line, ended, unended, with_byte, lines}
 use Rattle.text.proofs.Marks.{far, until, found, none_found, without_until, without_all, marked}
 use Rattle.text.proofs.Splits.{one_ended, one_unended}
@@ -12,6 +13,14 @@ lines_more xs rest n e r =
     ∙ one_ended (until 10 xs) (drop (far 10 xs + 1) xs) (without_until 10 xs)
     ∙ ap (λ k. ended (take k xs) ∷ lines (drop (k + 1) xs)) (sym f.0)
     ∙ ap (λ ys. ended (take n xs) ∷ lines ys) (sym r)
+
+-- the same where the rest is taken up to the end
+pub lines_next : (xs : List ℕ) (n : ℕ) → Some n ≡ position (λ x. eqb x 10) xs → ended (take n xs) ∷ lines (take (length xs - (n + 1)) (drop (n + 1) xs)) ≡ lines xs
+lines_next xs n e = sym (lines_more xs _ n (sym e) (take_rest xs (n + 1)))
+
+-- and they are fewer
+pub lines_fall : (xs : List ℕ) (n : ℕ) → Some n ≡ position (λ x. eqb x 10) xs → length (lines (take (length xs - (n + 1)) (drop (n + 1) xs))) < length (lines xs)
+lines_fall xs n e = omega (arith, ap length (lines_next xs n e))
 
 -- bytes with no newline are one unended line
 pub lines_last : (xs : List ℕ) → 0 < length xs → position (λ x. eqb x 10) xs ≡ None → lines xs ≡ unended xs ∷ []

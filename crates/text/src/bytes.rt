@@ -1,9 +1,25 @@
-// Where a run of bytes has a mark.
-ghost use Rattle.std.specs.Prelude.{◌≡◌, ◌==◌, position};
+// Where a run of bytes has a mark, and the parts between marks.
+ghost use Rattle.std.specs.Prelude.{◌≡◌, ◌==◌, length, position};
+ghost use Rattle.std.specs.List.{slice_split};
+ghost use Rattle.std.specs.Str.{bytes_eq};
 
 // The place of the first `mark`, if there is one.
 pub(crate) fn place(bytes: &[u8], mark: u8) -> Option<usize>
     ensures { result ≡ position (λ b. b == mark) bytes.now }
 {
     bytes.iter().position(|b| *b == mark)
+}
+
+// How many parts there are between the marks.
+pub(crate) fn parts(bytes: &[u8], mark: u8) -> usize
+    ensures { result ≡ length (slice_split (λ b. b == mark) bytes.now) }
+{
+    bytes.split(|b| *b == mark).count()
+}
+
+// The number of the first part between the marks that has just the bytes `text`.
+pub(crate) fn part_place(bytes: &[u8], mark: u8, text: &[u8]) -> Option<usize>
+    ensures { result ≡ position (λ p. bytes_eq p text.now) (slice_split (λ b. b == mark) bytes.now) }
+{
+    bytes.split(|b| *b == mark).position(|part| part == text)
 }

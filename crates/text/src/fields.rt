@@ -1,11 +1,12 @@
 // The fields of a line: each is a part of the line's bytes.
 ghost use Rattle.std.specs.Prelude.{◌≡◌, ◌==◌, ◌≤◌, length, is_some, nat_lt};
+ghost use Rattle.std.specs.List.{slice_get};
 ghost use Rattle.std.specs.Option.{ForSome, option_map};
 ghost use Rattle.std.specs.Iterator.{YieldsFirstBy, item_count};
 ghost use Rattle.text.specs.Fields.{fields, part, parts_from, field_of, text_of, place_of, FieldsExact};
 ghost use Rattle.text.specs.Shown.{shown};
 
-use crate::bytes::place;
+use crate::bytes::{part_place, parts, place};
 
 // A field's bytes and the byte of the line at which it begins. A number begins with a minus or
 // a digit, a word with anything else.
@@ -85,32 +86,34 @@ impl<'a> Iterator for Fields<'a> {
     }
 }
 
-fn is_comma(b: &u8) -> bool
-    ensures { result ≡ (b.now == 44) }
-{
-    *b == b','
-}
-
 // How many fields the line has.
 pub fn count(line: &[u8]) -> usize
     ensures { result ≡ length (fields line.now) }
 {
-    line.split(is_comma).count()
+    parts(line, b',')
+}
+
+// The field past the next `k` of those still to come.
+fn nth<'a>(mut fields: Fields<'a>, k: usize) -> Option<Field<'a>>
+    ensures { option_map shown result ≡ slice_get (parts_from fields.entry.line.now fields.entry.next) k }
+{
+    fields.nth(k)
 }
 
 // Field `k` of the line, counted from 0; none where the line has no more than `k` fields.
+#[tactic(auto, using(crate::proofs::Commas::field_among, crate::proofs::Commas::some_among, crate::proofs::Commas::some_shown))]
 pub fn get<'a>(line: &'a [u8], k: usize) -> Option<Field<'a>>
     ensures is { option_map shown result ≡ field_of line.now k }
     ensures any { is_some result ≡ nat_lt k (length (fields line.now)) }
 {
-    Fields::of(line).nth(k)
+    nth(Fields::of(line), k)
 }
 
 // The number of the first field that has just the bytes `name`.
 pub fn position(line: &[u8], name: &[u8]) -> Option<usize>
     ensures { result ≡ place_of (fields line.now) name.now }
 {
-    line.split(is_comma).position(|text| text == name)
+    part_place(line, b',', name)
 }
 
 // The fields of a line are the only texts without a comma that write it.

@@ -34,6 +34,7 @@ impl<'a> Iterator for Lines<'a> {
 
     ghost remaining = { item_count (λ s. lines s.rest.now) };
 
+    #[tactic(auto, using(crate::proofs::Sheet::lines_next, crate::proofs::Sheet::lines_fall, crate::proofs::Sheet::lines_last))]
     fn next(&mut self) -> Option<Result<&'a [u8], Unended<'a>>> {
         let sheet = self.rest;
         if sheet.is_empty() {

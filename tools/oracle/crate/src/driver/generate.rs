@@ -23,15 +23,15 @@ fn line(out: &mut Output, value: i64, counts: &mut [u64; 3]) -> io::Result<()> {
     match asked(|| Inst::generate_imm(value as u64)) {
         Some(Some((high, low))) => {
             counts[0] += 1;
-            writeln!(out, "{value},{},{}", high.as_i32(), low.as_i16())
+            writeln!(out, "generate_imm,{value},{},{}", high.as_i32(), low.as_i16())
         }
         Some(None) => {
             counts[1] += 1;
-            writeln!(out, "{value},none")
+            writeln!(out, "generate_imm,{value},none")
         }
         None => {
             counts[2] += 1;
-            writeln!(out, "{value},panic")
+            writeln!(out, "generate_imm,{value},panic")
         }
     }
 }

@@ -2,7 +2,7 @@
 //! immediate's bits and its value; a u64 is written as signed.
 use super::domain::Random;
 use super::{Output, asked};
-use crate::isa::riscv64::inst::{Imm5, Imm6, Imm12, Imm20, UImm5, Uimm2, Uimm5, Uimm6};
+use crate::isa::riscv64::inst::{Imm5, Imm6, Imm12, Imm20, UImm5, Uimm5, Uimm6};
 use std::io::{self, Write};
 
 type Made = Option<(u64, String)>;
@@ -53,7 +53,6 @@ fn constructors() -> Vec<Constructor> {
         }),
         of("Uimm6::maybe_from_u8", 8, false, |n| made!(Uimm6::maybe_from_u8(n as u8))),
         of("Uimm5::maybe_from_u8", 8, false, |n| made!(Uimm5::maybe_from_u8(n as u8))),
-        of("Uimm2::maybe_from_u8", 8, false, |n| made!(Uimm2::maybe_from_u8(n as u8))),
     ]
 }
 

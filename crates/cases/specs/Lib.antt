@@ -1,0 +1,4 @@
+pub mod Claims
+pub mod Marked
+pub mod Lines
+pub mod Tallies

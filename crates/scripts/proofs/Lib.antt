@@ -1,0 +1,4 @@
+pub mod Built
+pub mod Filled
+pub mod Written
+pub mod Zeros

@@ -1,0 +1,9 @@
+pub mod Words
+pub mod Verbs
+pub mod Edits
+pub mod Lines
+pub mod Told
+pub mod Script
+pub mod Size
+pub mod Answered
+pub mod Whole
