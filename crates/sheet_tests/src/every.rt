@@ -2,26 +2,7 @@
 // Stays a file of its own: two long texts.
 
 // The lines of the first sheet.
-pub fn first_sheet() -> &'static [&'static str] {
-    &FIRST_SHEET
-}
-
-// The lines of its answer.
-pub fn first_words() -> &'static [&'static str] {
-    &FIRST_WORDS
-}
-
-// The lines of the second sheet, which ends with the jumps.
-pub fn second_sheet() -> &'static [&'static str] {
-    &SECOND_SHEET
-}
-
-// The lines of its answer.
-pub fn second_words() -> &'static [&'static str] {
-    &SECOND_WORDS
-}
-
-const FIRST_SHEET: [&str; 119] = [
+pub(crate) const FIRST_SHEET: [&str; 119] = [
     "op,d,a,b,n,m",
     "add,1,3,2,,",
     "sub,1,3,2,,",
@@ -143,7 +124,8 @@ const FIRST_SHEET: [&str; 119] = [
     "VmfleVV,1,3,2,,1",
 ];
 
-const FIRST_WORDS: [&str; 119] = [
+// The lines of its answer.
+pub(crate) const FIRST_WORDS: [&str; 119] = [
     "at,word",
     "0,002180b3",
     "4,402180b3",
@@ -265,7 +247,8 @@ const FIRST_WORDS: [&str; 119] = [
     "468,642190d7",
 ];
 
-const SECOND_SHEET: [&str; 117] = [
+// The lines of the second sheet, which ends with the jumps.
+pub(crate) const SECOND_SHEET: [&str; 117] = [
     "op,d,a,b,n,m",
     "VmfleVF,1,3,2,,1",
     "VmandMM,1,3,2,,",
@@ -385,7 +368,8 @@ const SECOND_SHEET: [&str; 117] = [
     "CJ,,,,1,",
 ];
 
-const SECOND_WORDS: [&str; 116] = [
+// The lines of its answer.
+pub(crate) const SECOND_WORDS: [&str; 116] = [
     "at,word",
     "0,6421d0d7",
     "4,6621a0d7",

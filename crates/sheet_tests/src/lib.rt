@@ -6,7 +6,7 @@ mod every;
 
 #[cfg(test)]
 mod tests {
-    use crate::every::{first_sheet, first_words, second_sheet, second_words};
+    use crate::every::{FIRST_SHEET, FIRST_WORDS, SECOND_SHEET, SECOND_WORDS};
     use sheets::faults::SizeFault;
     use sheets::sheet::sheet;
     use std::alloc::Global;
@@ -310,11 +310,11 @@ mod tests {
     // Every operation, over two sheets: the words are an assembler's.
     #[test]
     fn every_operation(rt: HostRuntime) -> Result<(), Fail> {
-        let sheet = lines(rt.alloc(), first_sheet())?;
-        let words = lines(rt.alloc(), first_words())?;
+        let sheet = lines(rt.alloc(), &FIRST_SHEET)?;
+        let words = lines(rt.alloc(), &FIRST_WORDS)?;
         answered(&rt, "the first half", sheet.as_bytes(), words.as_bytes())?;
-        let sheet = lines(rt.alloc(), second_sheet())?;
-        let words = lines(rt.alloc(), second_words())?;
+        let sheet = lines(rt.alloc(), &SECOND_SHEET)?;
+        let words = lines(rt.alloc(), &SECOND_WORDS)?;
         answered(&rt, "the second half", sheet.as_bytes(), words.as_bytes())
     }
 
