@@ -1,4 +1,4 @@
-// Words by walking the parts of a layout.
+// Words by walking the parts of a layout. Each walk is written out where it is called: where the layout is known, no loop is left.
 ghost use Rattle.std.specs.Prelude.{◌≡◌};
 ghost use Rattle.bits.specs.Layout.{word, value, width, bits_in, pick, picks, value_at, Handy, Handies, total};
 
@@ -14,6 +14,7 @@ pub struct Layout<'a> {
 
 impl<'a> Layout<'a> {
     // How many bits its words have.
+    #[inline(always)]
     pub fn width(&self) -> u32
         ensures { result ≡ total self.now.parts.now }
     {
@@ -21,6 +22,7 @@ impl<'a> Layout<'a> {
     }
 
     // The word of the fields `v`.
+    #[inline(always)]
     pub fn join(&self, v: &Values) -> u32
         ensures { result ≡ word self.now.parts.now v.now }
     {
@@ -28,6 +30,7 @@ impl<'a> Layout<'a> {
     }
 
     // The field in the word `w`.
+    #[inline(always)]
     pub fn pick(&self, field: Field, w: u32) -> u32
         ensures { result ≡ pick 0 self.now.parts.now field w }
     {
@@ -41,6 +44,7 @@ impl<'a> Layout<'a> {
     }
 
     // The fields in the word `w`.
+    #[inline(always)]
     pub fn picked(&self, w: u32) -> Values
         ensures { result ≡ picks self.now.parts.now w }
     {
@@ -58,6 +62,7 @@ impl<'a> Layout<'a> {
 }
 
 // The word of the fields, from its highest part down.
+#[inline(always)]
 fn joined(parts: &[Part], v: &Values) -> u32
     requires { Handies parts.now }
     ensures { result ≡ word parts.now v.now }

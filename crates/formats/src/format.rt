@@ -71,6 +71,8 @@ pub trait Format {
 }
 
 // The fields whose word is `w`, by a layout in which each bit of a field stands once: none where no fields that fit have that word.
+// Written out in each format's reading, whose layout is known.
+#[inline(always)]
 fn fields_in(layout: &Layout<'_>, w: u32) -> Option<Values>
     requires { sound layout.now.parts.now ≡ true }
     ensures forth { (v : Values) → result ≡ Some v → Fit layout.now.parts.now v × (word layout.now.parts.now v ≡ w) }

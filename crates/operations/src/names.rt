@@ -3,7 +3,7 @@ ghost use Rattle.std.specs.Prelude.{◌≡◌, ◌<◌, length, IfSome};
 ghost use Rattle.std.specs.List.{position_from};
 ghost use Rattle.std.specs.Str.{bytes_eq};
 ghost use Rattle.operations.specs.Manual.{operations, count};
-ghost use Rattle.operations.specs.Names.{named, placed};
+ghost use Rattle.operations.specs.Names.{named, placed, NamesApart};
 
 use crate::operation::Operation;
 use crate::row::Row;
@@ -32,3 +32,8 @@ pub fn by_name(name: &[u8]) -> Option<Operation>
     let place = place_of(name)?;
     Some(Operation { place })
 }
+
+// No two operations have one name.
+pub fn names_stand()
+    ensures { NamesApart }
+{}

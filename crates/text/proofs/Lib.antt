@@ -1,3 +1,4 @@
+mod Places
 pub mod Marks
 pub mod Sheet
 pub mod Commas

@@ -4,10 +4,16 @@ ghost use Rattle.std.specs.List.{slice_split};
 ghost use Rattle.std.specs.Str.{bytes_eq};
 
 // The place of the first `mark`, if there is one.
+// Stays a loop over places: std's `position`, written out in a search of fields, keeps three counts and takes up to half as long again.
 pub(crate) fn place(bytes: &[u8], mark: u8) -> Option<usize>
     ensures { result ≡ position (λ b. b == mark) bytes.now }
 {
-    bytes.iter().position(|b| *b == mark)
+    for k in 0..bytes.len() {
+        if bytes[k] == mark {
+            return Some(k);
+        }
+    }
+    None
 }
 
 // How many parts there are between the marks.
