@@ -16,11 +16,18 @@ pub(crate) fn place(bytes: &[u8], mark: u8) -> Option<usize>
     None
 }
 
-// How many parts there are between the marks.
+// How many parts there are between the marks: one more than there are marks.
+// Stays a loop over bytes: with `filter` and `count` in its place, a run over long lines takes half as long again.
 pub(crate) fn parts(bytes: &[u8], mark: u8) -> usize
     ensures { result ≡ length (slice_split (λ b. b == mark) bytes.now) }
 {
-    bytes.split(|b| *b == mark).count()
+    let mut n = 1;
+    for b in bytes {
+        if *b == mark {
+            n += 1;
+        }
+    }
+    n
 }
 
 // The number of the first part between the marks that has just the bytes `text`.

@@ -1,8 +1,11 @@
-use Rattle.std.proofs.Common.{rules}
-use borrow.Author.Tests.{tests}
-use Rattle.std.proofs.lemmas.Iterator.Consumers.{count_from_yields_List}
-use Rattle.std.proofs.lemmas.Iterator.Splits.{YieldsList-from_slice_split}
+use Rattle.std.proofs.Common.{ℕ, Bool, ◌==◌, ap, arith}
+use Rattle.std.specs.List.{count_by}
+use Rattle.std.proofs.lemmas.List.{take_all}
+use Rattle.std.proofs.lemmas.List.Splits.{length-slice_split}
 use Rattle.text.proofs.bytes.parts.Goals as goal
 
 pub returns : goal.returns
-returns c = count_from_yields_List _ c.count.result c.count.ensures.ran (YieldsList-from_slice_split _ _ c.args.bytes.now c.split.ensures.rest c.split.ensures.done c.split.ensures.closure (λ x r q k. search (rules, tests)))
+returns c =
+    let is_mark : ℕ → Bool = λ b. b == c.args.mark in
+    let all_read = ap (count_by is_mark) (take_all c.loop-b.b-index c.args.bytes.now (omega (arith, c.loop-b-test.false))) in
+    omega (arith, c.loop-b.invariant, all_read, length-slice_split is_mark c.args.bytes.now)
