@@ -17,7 +17,7 @@ pub(crate) fn place(bytes: &[u8], mark: u8) -> Option<usize>
 }
 
 // How many parts there are between the marks: one more than there are marks.
-// Stays a loop over bytes: with `filter` and `count` in its place, a run over long lines takes half as long again.
+// Stays a loop over bytes: with `filter` and `count` in its place, lines with their count take half as long again.
 pub(crate) fn parts(bytes: &[u8], mark: u8) -> usize
     ensures { result ≡ length (slice_split (λ b. b == mark) bytes.now) }
 {
